@@ -1,0 +1,58 @@
+-- What a reader tells of the AVP that it stands at.
+use mathlib.Core.List.{List}
+use mathlib.Core.Path.{_≡_}
+use Prim.Native.Nat.{ℕ, _+_, _≤_, _<_}
+use lib.ListN.{length, take, drop}
+use Rattle.std.specs.declared.option.Option.{Option}
+use Rattle.std.specs.declared.option.Option.the-variants.{Some, None}
+use Rattle.std.specs.declared.result.Result.{Result}
+use Rattle.std.specs.declared.result.Result.the-variants.{Ok, Err}
+use Rattle.refusals.specs.Faults.{faultAt}
+use Rattle.refusals.specs.declared.fault.Fault.{Fault}
+use Rattle.refusals.specs.declared.refusal.Refusal.the-variants.{AvpLength}
+use Rattle.diameter.specs.Framing.{Framed, padded, dataOf}
+use Rattle.diameter.specs.Headers.{lengthOf}
+use Rattle.diameter.specs.Listing.{Listing, level, listed, kindIn, entryAt}
+use Rattle.diameter.specs.Values.{held, valueOf}
+use Rattle.diameter.specs.declared.cursor.Cursor.{Cursor}
+use Rattle.diameter.specs.declared.entry.Entry.{Entry}
+use Rattle.diameter.specs.declared.entry.Item.{Item}
+use Rattle.diameter.specs.declared.place.Kind.{Kind}
+
+-- the cursor lies in the message
+pub record Within (m : List ℕ) (c : Cursor) : Type 0 where
+  pub ordered : c .position ≤ c .end
+  pub inside : c .end ≤ length m
+
+-- the octets of m from a position to an end
+unfoldable pub window : List ℕ → ℕ → ℕ → List ℕ
+window m position end = drop position (take end m)
+
+-- what the reader may still read
+abbrev pub left : List ℕ → Cursor → List ℕ
+left m c = window m (c .position) (c .end)
+
+module _ {P : Type 0} (kinds : P → ℕ → ℕ → Kind P) (p : P) (parent : ℕ) (m : List ℕ) (c d : Cursor) where
+  -- the AVP at c is well framed, and was told as it is; d stands after its padding
+  pub record Told (e : Entry P) (i : Item) : Type 0 where
+    pub framed : Framed (kindIn kinds p (left m c)) (left m c)
+    pub entry : e ≡ entryAt kinds p parent (c .position) (left m c)
+    pub value : held i ≡ valueOf (kindIn kinds p (left m c)) (dataOf (left m c))
+    pub after : d ≡ record { position = c .position + padded (lengthOf (left m c)); end = c .end }
+
+  -- nothing is left at c
+  pub record Ended : Type 0 where
+    pub end : c .position ≡ c .end
+    pub same : d ≡ c
+
+  -- what is left at c does not begin with a well framed AVP
+  pub record Malformed (f : Fault) : Type 0 where
+    pub some : c .position < c .end
+    pub broken : Framed (kindIn kinds p (left m c)) (left m c) → ⊥
+    pub fault : f ≡ faultAt AvpLength (c .position)
+    pub same : d ≡ c
+
+  abbrev pub Read : Result (Option (Entry P × Item)) Fault → Type 0
+  Read (Ok None) = Ended
+  Read (Ok (Some x)) = Told (x .0) (x .1)
+  Read (Err f) = Malformed f
