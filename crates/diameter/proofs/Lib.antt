@@ -1,1 +1,5 @@
 pub mod Tellings
+pub mod Levels
+pub mod Steps
+pub mod Shows
+pub mod Going

@@ -4,3 +4,4 @@ pub mod Framing
 pub mod Values
 pub mod Listing
 pub mod Reading
+pub mod Visiting

@@ -32,6 +32,10 @@ window m position end = drop position (take end m)
 abbrev pub left : List ℕ → Cursor → List ℕ
 left m c = window m (c .position) (c .end)
 
+-- the list of what the reader may still read, at the place p, in the group at the offset parent
+unfoldable pub ahead : {P : Type 0} → (P → ℕ → ℕ → Kind P) → (P → ℕ) → P → ℕ → List ℕ → Cursor → Listing P
+ahead kinds rank p parent m c = level kinds (listed kinds (rank p)) p parent 0 (c .position) (left m c)
+
 module _ {P : Type 0} (kinds : P → ℕ → ℕ → Kind P) (p : P) (parent : ℕ) (m : List ℕ) (c d : Cursor) where
   -- the AVP at c is well framed, and was told as it is; d stands after its padding
   pub record Told (e : Entry P) (i : Item) : Type 0 where

@@ -32,8 +32,29 @@ impl MessageHeader {
     pub fn read(message: &[u8]) -> Option<MessageHeader>
         ensures { λ r. ⌜ BySome r (length (now (message .entry)) < 20) (λ h. MessageHeaderOf (now (message .entry)) h) ⌝ }
     {
-        let [version, l0, l1, l2, flags, c0, c1, c2, a0, a1, a2, a3, h0, h1, h2, h3, e0, e1, e2, e3, ..] =
-            message
+        let [
+            version,
+            l0,
+            l1,
+            l2,
+            flags,
+            c0,
+            c1,
+            c2,
+            a0,
+            a1,
+            a2,
+            a3,
+            h0,
+            h1,
+            h2,
+            h3,
+            e0,
+            e1,
+            e2,
+            e3,
+            ..
+        ] = message
         else {
             return None;
         };

@@ -5,6 +5,8 @@ mod framing;
 mod headers;
 mod octets;
 mod place;
+mod visitor;
+mod walk;
 
 pub use cursor::Cursor;
 pub use entry::Entry;
@@ -16,3 +18,4 @@ pub use headers::MessageHeader;
 pub use headers::VENDOR_FLAG;
 pub use place::Kind;
 pub use place::Place;
+pub use visitor::Visitor;
