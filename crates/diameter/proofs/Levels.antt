@@ -6,7 +6,8 @@ use mathlib.Core.Path.{_≡_, refl, sym, ap, _∙_}
 use Prim.Native.Nat.{ℕ, zero, suc, _+_, _-_, _≤_, _<_}
 use native.Mathlib.Nat.{add-zero}
 use native.Mathlib.Omega.{arith}
-use borrow.Author.Tests.{le-leb, lt-leb}
+use borrow.Author.Tests.{le-leb, lt-leb, leb-true}
+use lib.Dec.{leb}
 use lib.ListN.{length, drop}
 use Rattle.std.proofs.shelf.Tests.{cases-lt, cases-bool}
 use Rattle.diameter.specs.Framing.{framed, Framed, padded, fitting, dataOf}
@@ -31,6 +32,30 @@ framed-false k xs broken =
     (cases-lt (length xs) (padded (lengthOf xs))))
     (cases-lt (lengthOf xs) (headerLen xs)))
     (cases-lt (length xs) 8)
+
+both-left : (a b : Bool) → cond a b false ≡ true → a ≡ true
+both-left true b t = refl
+both-left false b t = t
+
+both-right : (a b : Bool) → cond a b false ≡ true → b ≡ true
+both-right true b t = t
+both-right false b t = absurd (let z : _≡_ {A = ℕ} 0 1 = cc in omega arith)
+
+-- the test tells that the AVP is well framed
+pub framed-is : {P : Type 0} (k : Kind P) (xs : List ℕ) → framed k xs ≡ true → Framed k xs
+unfolding framed
+framed-is k xs t =
+    let b = leb (headerLen xs) (lengthOf xs) in
+    let c = leb (padded (lengthOf xs)) (length xs) in
+    let d = fitting k (lengthOf xs - headerLen xs) in
+    let t1 = both-right (leb 8 (length xs)) (cond b (cond c d false) false) t in
+    let t2 = both-right b (cond c d false) t1 in
+    record {
+      begun = leb-true _ _ (both-left (leb 8 (length xs)) (cond b (cond c d false) false) t);
+      covers = leb-true _ _ (both-left b (cond c d false) t1);
+      whole = leb-true _ _ (both-left c d t2);
+      fits = both-right c d t2;
+    }
 
 pub header-least : (xs : List ℕ) → 8 ≤ headerLen xs
 header-least xs = elim (plain xs) as (λ b. 8 ≤ cond b 8 12) [ true ↦ omega arith | false ↦ omega arith ]

@@ -23,6 +23,10 @@ pub made-err : {X Y : Type 0} (r : Result X Y) (y : Y) (Q : X → Type 0) → r 
 made-err (Ok x) y Q e = absurd (err-not-ok x y (sym e))
 made-err (Err z) y Q e = tt
 
+pub cases-ok : {A B : Type 0} (a : Result A B) (x : A) (P : Type 0) (Q : B → Type 0) → a ≡ Ok x → Cases a (λ _. P) Q → P
+cases-ok (Ok y) x P Q e h = h
+cases-ok (Err b) x P Q e h = absurd (err-not-ok x b e)
+
 cases-map : {A B : Type 0} (a : Result A B) {P P' : Type 0} {Q Q' : B → Type 0} → (P → P') → ((b : B) → Q b → Q' b) → Cases a (λ _. P) Q → Cases a (λ _. P') Q'
 cases-map (Ok x) f g h = f h
 cases-map (Err b) f g h = g b h

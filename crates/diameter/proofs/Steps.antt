@@ -1,18 +1,21 @@
 -- What one reading says of the list that is ahead of the reader.
 use mathlib.Core.List.{List}
+use mathlib.Core.Logic.{⊎-elim}
 use mathlib.Core.Path.{_≡_, refl, sym, ap, subst, _∙_}
-use Prim.Native.Nat.{ℕ, suc, _+_, _-_, _≤_, _<_}
+use Prim.Native.Nat.{ℕ, suc, min, _+_, _-_, _≤_, _<_}
 use native.Mathlib.Omega.{arith}
 use lib.ListN.{length, take, drop}
-use Rattle.std.proofs.shelf.Lists.{drop-drop, length-drop, length-take-le, drop-take, take-take}
+use Rattle.std.proofs.shelf.Tests.{cases-lt}
+use Rattle.std.proofs.shelf.Lists.{take-all, drop-drop, length-drop, length-take-le, drop-take, take-take}
 use Rattle.std.specs.declared.option.Option.{Option}
 use Rattle.std.specs.declared.option.Option.the-variants.{Some, None}
-use Rattle.std.specs.declared.result.Result.the-variants.{Ok}
+use Rattle.std.specs.declared.result.Result.{Result}
+use Rattle.std.specs.declared.result.Result.the-variants.{Ok, Err}
 use Rattle.refusals.specs.declared.fault.Fault.{Fault}
 use Rattle.diameter.specs.Framing.{Framed, padded, dataOf}
 use Rattle.diameter.specs.Headers.{lengthOf, headerLen}
-use Rattle.diameter.specs.Listing.{Listing, done, fault, more, append, members, kindIn, entryAt, level, listed}
-use Rattle.diameter.specs.Reading.{Within, Told, Ended, Malformed, Read, window, left, ahead}
+use Rattle.diameter.specs.Listing.{Listing, done, fault, more, append, members, kindIn, entryAt, level, listed, listing}
+use Rattle.diameter.specs.Reading.{Within, Told, Ended, Malformed, Read, window, left, ahead, opening}
 use Rattle.diameter.specs.Values.{held, valueOf}
 use Rattle.diameter.specs.declared.cursor.Cursor.{Cursor}
 use Rattle.diameter.specs.declared.entry.Entry.{Entry}
@@ -119,3 +122,20 @@ module _ {P : Type 0} (kinds : P → ℕ → ℕ → Kind P) (p : P) (parent : �
 
   pub read-none : o ≡ None → Read kinds p parent m c d (Ok o) → Ended kinds p parent m c d
   read-none is r = subst (λ x. Read kinds p parent m c d (Ok x)) is r
+
+-- a reading leaves the cursor in the message
+pub read-within : {P : Type 0} (kinds : P → ℕ → ℕ → Kind P) (p : P) (parent : ℕ) (m : List ℕ) (c d : Cursor) (r : Result (Option (Entry P × Item)) Fault) → Within m c → Read kinds p parent m c d r → Within m d
+read-within kinds p parent m c d (Ok None) in-m t = subst (Within m) (sym (t .same)) in-m
+read-within kinds p parent m c d (Ok (Some x)) in-m t = told-lies kinds (λ _. 0) p parent m c d in-m (x .0) (x .1) t .within
+read-within kinds p parent m c d (Err f) in-m t = subst (Within m) (sym (t .same)) in-m
+
+-- what is ahead of a reader at the first AVP of a message is the list of the message
+pub ahead-opening : {P : Type 0} (kinds : P → ℕ → ℕ → Kind P) (rank : P → ℕ) (p : P) (m : List ℕ) → ahead kinds rank p 0 m (opening m) ≡ listing kinds rank p m
+unfolding ahead listing listed window
+ahead-opening kinds rank p m =
+    let inner = listed kinds (rank p) in
+    ap (λ l. level kinds inner p 0 0 (min 20 (length m)) (drop (min 20 (length m)) l)) (take-all (length m) m (omega arith))
+    ∙ ⊎-elim
+    (λ short. level-done kinds inner p 0 (min 20 (length m)) (drop (min 20 (length m)) m) (length-drop (min 20 (length m)) m ∙ omega arith) ∙ sym (level-done kinds inner p 0 20 (drop 20 m) (length-drop 20 m ∙ omega arith)))
+    (λ long. let same : min 20 (length m) ≡ 20 = omega arith in ap (λ n. level kinds inner p 0 0 n (drop n m)) same)
+    (cases-lt (length m) 20)

@@ -5,3 +5,5 @@ pub mod Values
 pub mod Listing
 pub mod Reading
 pub mod Visiting
+pub mod Order
+pub mod Questions

@@ -1,7 +1,8 @@
 -- What a reader tells of the AVP that it stands at.
+use mathlib.Core.Bool.{Bool, true, false}
 use mathlib.Core.List.{List}
 use mathlib.Core.Path.{_≡_}
-use Prim.Native.Nat.{ℕ, _+_, _≤_, _<_}
+use Prim.Native.Nat.{ℕ, min, _+_, _≤_, _<_}
 use lib.ListN.{length, take, drop}
 use Rattle.std.specs.declared.option.Option.{Option}
 use Rattle.std.specs.declared.option.Option.the-variants.{Some, None}
@@ -24,6 +25,10 @@ pub record Within (m : List ℕ) (c : Cursor) : Type 0 where
   pub ordered : c .position ≤ c .end
   pub inside : c .end ≤ length m
 
+-- where the AVPs of a message begin and end: after 20 octets of header, where there are so many
+abbrev pub opening : List ℕ → Cursor
+opening m = record { position = min 20 (length m); end = length m }
+
 -- the octets of m from a position to an end
 unfoldable pub window : List ℕ → ℕ → ℕ → List ℕ
 window m position end = drop position (take end m)
@@ -35,6 +40,11 @@ left m c = window m (c .position) (c .end)
 -- the list of what the reader may still read, at the place p, in the group at the offset parent
 unfoldable pub ahead : {P : Type 0} → (P → ℕ → ℕ → Kind P) → (P → ℕ) → P → ℕ → List ℕ → Cursor → Listing P
 ahead kinds rank p parent m c = level kinds (listed kinds (rank p)) p parent 0 (c .position) (left m c)
+
+-- the cursor after a visit: at the end where all was shown, else as it was
+abbrev pub rested : Bool → Cursor → Cursor
+rested true c = record { position = c .end; end = c .end }
+rested false c = c
 
 module _ {P : Type 0} (kinds : P → ℕ → ℕ → Kind P) (p : P) (parent : ℕ) (m : List ℕ) (c d : Cursor) where
   -- the AVP at c is well framed, and was told as it is; d stands after its padding

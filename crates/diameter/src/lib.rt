@@ -5,6 +5,8 @@ mod framing;
 mod headers;
 mod octets;
 mod place;
+mod questions;
+mod reader;
 mod visitor;
 mod walk;
 
@@ -18,4 +20,8 @@ pub use headers::MessageHeader;
 pub use headers::VENDOR_FLAG;
 pub use place::Kind;
 pub use place::Place;
+pub use questions::check_framing;
+pub use questions::find;
+pub use reader::Reader;
+pub use reader::visit_message;
 pub use visitor::Visitor;
