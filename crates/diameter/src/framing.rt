@@ -9,7 +9,7 @@ use refusals::Fault;
 use refusals::Refusal;
 ghost use mathlib.Core.Bool.{true};
 ghost use mathlib.Core.Path.{_≡_};
-ghost use Prim.Native.Nat.{_^_, _<_};
+ghost use Prim.Native.Nat.{_-_};
 ghost use lib.ListN.{length};
 ghost use Rattle.std.specs.Options.{Cases as BySome};
 ghost use Rattle.diameter.specs.Framing.{Framed, fitting, padded};
@@ -18,12 +18,11 @@ ghost use Rattle.diameter.specs.Listing.{kindIn};
 ghost use Rattle.diameter.specs.Reading.{Read, Within};
 ghost use Rattle.diameter.specs.Values.{held, valueOf};
 
-// `n` rounded up to a multiple of 4.
-pub fn pad(n: usize) -> usize
-    requires { ⌜ n < 2 ^ 24 ⌝ }
-    ensures { λ r. ⌜ r ≡ padded n ⌝ }
+// How many octets of padding follow an AVP of this length.
+pub fn padding(length: usize) -> usize
+    ensures { λ r. ⌜ r ≡ padded length - length ⌝ }
 {
-    (n + 3) / 4 * 4
+    (4 - length % 4) % 4
 }
 
 // The header of the AVP that comes first and what the AVP is at the place, where it is well framed.
@@ -31,13 +30,14 @@ fn frame<P: Place>(place: P, part: &[u8]) -> Option<(AvpHeader, Kind<P>)>
     ensures { λ r. ⌜ BySome r ((Framed (kindIn (P·Place .kinds) place (now (part .entry))) (now (part .entry)) → ⊥)) (λ h. Framed (kindIn (P·Place .kinds) place (now (part .entry))) (now (part .entry)) × AvpHeaderOf (now (part .entry)) (h .0) × (h .1 ≡ kindIn (P·Place .kinds) place (now (part .entry)))) ⌝ }
 {
     let header = AvpHeader::read(part)?;
-    if header.length < header.header || part.len() < pad(header.length) {
+    if header.length < header.header || part.len() < header.length + padding(header.length) {
         return None;
     }
     let kind = place.kind_of(header.code, header.vendor);
-    match kind {
-        Kind::Number if header.length - header.header != 4 => None,
-        _ => Some((header, kind)),
+    if kind.fits(header.length - header.header) {
+        Some((header, kind))
+    } else {
+        None
     }
 }
 
@@ -57,7 +57,7 @@ fn item_of<P: Copy>(kind: Kind<P>, data: &[u8]) -> Item<'_>
 }
 
 // The AVP at the cursor, which then stands after it; none at the end.
-pub fn read_avp<'a, P: Place>(
+pub(crate) fn read_avp<'a, P: Place>(
     message: &'a [u8],
     cursor: &mut Cursor,
     place: P,
@@ -83,7 +83,7 @@ pub fn read_avp<'a, P: Place>(
         length,
     } = avp;
     let item = item_of(kind, &part[header..length]);
-    cursor.position = offset + pad(length);
+    cursor.position = offset + length + padding(length);
     let entry = Entry {
         place,
         parent,

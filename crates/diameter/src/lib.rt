@@ -13,6 +13,7 @@ mod walk;
 pub use cursor::Cursor;
 pub use entry::Entry;
 pub use entry::Item;
+pub use framing::padding;
 pub use headers::AvpHeader;
 pub use headers::HEADER_LEN;
 pub use headers::MANDATORY_FLAG;

@@ -1,5 +1,6 @@
 ghost use mathlib.Core.Path.{_≡_};
 ghost use Prim.Native.Nat.{ℕ, suc};
+ghost use Rattle.diameter.specs.Framing.{fitting};
 ghost use Rattle.diameter.specs.declared.place.Kind.{Kind};
 ghost use Rattle.diameter.specs.declared.place.Kind.the-variants.{Group};
 
@@ -10,6 +11,18 @@ pub enum Kind<P> {
     Number,
     Octets,
     Group(P),
+}
+
+impl<P: Copy> Kind<P> {
+    // Whether an AVP of this kind may have so many octets of data: a number has four.
+    pub fn fits(self, length: usize) -> bool
+        ensures { λ r. ⌜ r ≡ fitting self length ⌝ }
+    {
+        match self {
+            Kind::Number => length == 4,
+            Kind::Unknown | Kind::Octets | Kind::Group(_) => true,
+        }
+    }
 }
 
 // A dictionary: where an AVP can stand (in the message or in a group), and what each is there.

@@ -28,7 +28,7 @@ impl Drop for Inside<'_> {
 }
 
 // Shows the visitor all that is left at the cursor, AVP by AVP, the members of a group after the group.
-pub fn walk<P: Place, V: Visitor<P>>(
+pub(crate) fn walk<P: Place, V: Visitor<P>>(
     message: &[u8],
     cursor: &mut Cursor,
     place: P,

@@ -24,4 +24,4 @@ returns g c =
     let p = c .args .cursor .now .position in
     let e = c .args .cursor .now .end in
     let found = c .in-Some .ensures tt in
-    told (g .P·Place .kinds) (c .args .place) (c .args .parent) m p e (c .in-Some .avp) (c .in-Some .kind) (c .item-of-item .result) (c .pad .result) (between p e m) (window-is m p e) (found .0) (found .1) (found .2) (c .pad .ensures) (c .item-of-item .ensures)
+    told (g .P·Place .kinds) (c .args .place) (c .args .parent) m p e (c .in-Some .avp) (c .in-Some .kind) (c .item-of-item .result) (c .padding .result) (between p e m) (window-is m p e) (found .0) (found .1) (found .2) (c .padding .ensures) (c .item-of-item .ensures)
