@@ -1,0 +1,45 @@
+-- The octets of AVPs and of messages.
+use mathlib.Core.Bool.{Bool, cond}
+use mathlib.Core.List.{List, [], _∷_, _++_}
+use Prim.Native.Nat.{ℕ, _+_, _-_, _/_, _%_}
+use lib.ListN.{length, replicate}
+use Rattle.std.specs.Options.{isSome, valueOr}
+use Rattle.std.specs.declared.option.Option.{Option}
+use Rattle.std.specs.declared.option.Option.the-variants.{Some, None}
+use Rattle.diameter.specs.Framing.{padded}
+use Rattle.diameter_writer.specs.declared.avp.Avp.{Avp}
+
+-- a number in three and in four octets, the highest first
+abbrev pub triple : ℕ → List ℕ
+triple n = (n / 65536 % 256) ∷ (n / 256 % 256) ∷ (n % 256) ∷ []
+
+abbrev pub quad : ℕ → List ℕ
+quad n = (n / 16777216 % 256) ∷ (n / 65536 % 256) ∷ (n / 256 % 256) ∷ (n % 256) ∷ []
+
+-- the flag V where there is a vendor, the flag M where the AVP is mandatory
+abbrev pub flagsOf : Avp → ℕ
+flagsOf a = cond (isSome (a .vendor)) 128 0 + cond (a .mandatory) 64 0
+
+-- the vendor as a reader sees it
+abbrev pub vendorOf : Avp → ℕ
+vendorOf a = valueOr (a .vendor) 0
+
+abbrev pub vendorPart : Option ℕ → List ℕ
+vendorPart None = []
+vendorPart (Some vendor) = quad vendor
+
+abbrev pub headerLen : Avp → ℕ
+headerLen a = cond (isSome (a .vendor)) 12 8
+
+-- header and data
+abbrev pub lengthFor : Avp → ℕ
+lengthFor a = headerLen a + length (a .octets .now)
+
+-- code, flags, length, vendor if any, data, and zeros up to a multiple of 4
+unfoldable pub encodeAvp : Avp → List ℕ
+encodeAvp a = quad (a .code) ++ (flagsOf a ∷ triple (lengthFor a)) ++ (vendorPart (a .vendor) ++ (a .octets .now ++ replicate (padded (lengthFor a) - lengthFor a) 0))
+
+-- AVP after AVP
+unfoldable pub encodeAvps : List Avp → List ℕ
+encodeAvps [] = []
+encodeAvps (a ∷ rest) = encodeAvp a ++ encodeAvps rest

@@ -1,0 +1,43 @@
+ghost use mathlib.Core.Path.{_≡_};
+ghost use Prim.Native.Nat.{_≤_};
+ghost use Rattle.diameter_writer.specs.Encoding.{flagsOf, headerLen, vendorOf};
+
+// An AVP to be written. The vendor is written, and the flag V set, where there is one.
+#[derive(Clone, Copy)]
+pub struct Avp<'a> {
+    pub code: u32,
+    pub mandatory: bool,
+    pub vendor: Option<u32>,
+    pub octets: &'a [u8],
+}
+
+impl Avp<'_> {
+    // The octet of flags: V (0x80) where there is a vendor, M (0x40) where the AVP is mandatory.
+    pub fn flags(&self) -> u8
+        ensures { λ r. ⌜ r ≡ flagsOf (now (self .entry)) ⌝ }
+    {
+        match (self.vendor, self.mandatory) {
+            (None, false) => 0,
+            (None, true) => 0x40,
+            (Some(_), false) => 0x80,
+            (Some(_), true) => 0xc0,
+        }
+    }
+
+    // The vendor that a reader will see: 0 where there is none.
+    pub fn vendor_or_zero(&self) -> u32
+        ensures { λ r. ⌜ r ≡ vendorOf (now (self .entry)) ⌝ }
+    {
+        self.vendor.unwrap_or(0)
+    }
+
+    // The octets before the data.
+    pub fn header_len(&self) -> usize
+        ensures { λ r. ⌜ r ≡ headerLen (now (self .entry)) ⌝ }
+    {
+        match self.vendor {
+            None => 8,
+            Some(_) => 12,
+        }
+    }
+}

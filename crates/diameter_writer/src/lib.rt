@@ -1,0 +1,5 @@
+// Writes Diameter messages: the octets of header and AVPs, into an output that the caller lends.
+mod avp;
+mod put;
+
+pub use avp::Avp;
