@@ -6,7 +6,8 @@ use lib.ListN.{length, replicate}
 use Rattle.std.specs.Options.{isSome, valueOr}
 use Rattle.std.specs.declared.option.Option.{Option}
 use Rattle.std.specs.declared.option.Option.the-variants.{Some, None}
-use Rattle.diameter.specs.Framing.{padded}
+use Rattle.diameter.specs.Framing.{fitting, padded}
+use Rattle.diameter.specs.declared.place.Kind.{Kind}
 use Rattle.diameter_writer.specs.declared.avp.Avp.{Avp}
 
 -- a number in three and in four octets, the highest first
@@ -34,6 +35,10 @@ headerLen a = cond (isSome (a .vendor)) 12 8
 -- header and data
 abbrev pub lengthFor : Avp → ℕ
 lengthFor a = headerLen a + length (a .octets .now)
+
+-- the data has the length of what the AVP is at the place p
+abbrev pub fitsAt : {P : Type 0} → (P → ℕ → ℕ → Kind P) → P → Avp → Bool
+fitsAt kinds p a = fitting (kinds p (a .code) (vendorOf a)) (length (a .octets .now))
 
 -- code, flags, length, vendor if any, data, and zeros up to a multiple of 4
 unfoldable pub encodeAvp : Avp → List ℕ

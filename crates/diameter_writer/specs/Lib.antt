@@ -1,2 +1,5 @@
 pub mod Encoding
 pub mod Writing
+pub mod Messages
+pub mod Written
+pub mod Measures

@@ -1,6 +1,7 @@
+use diameter::Place;
 ghost use mathlib.Core.Path.{_≡_};
-ghost use Prim.Native.Nat.{_≤_};
-ghost use Rattle.diameter_writer.specs.Encoding.{flagsOf, headerLen, vendorOf};
+ghost use Prim.Native.Nat.{_^_, _<_};
+ghost use Rattle.diameter_writer.specs.Encoding.{fitsAt, flagsOf, headerLen, vendorOf};
 
 // An AVP to be written. The vendor is written, and the flag V set, where there is one.
 #[derive(Clone, Copy)]
@@ -39,5 +40,15 @@ impl Avp<'_> {
             None => 8,
             Some(_) => 12,
         }
+    }
+
+    // Whether the data has the length of what the AVP is at the place.
+    pub fn fits_at<P: Place>(&self, place: P) -> bool
+        ensures value { λ r. ⌜ r ≡ fitsAt (P·Place .kinds) place (now (self .entry)) ⌝ }
+        ensures typed { λ _. ⌜ (now (self .entry) .code < 2 ^ 32) × (vendorOf (now (self .entry)) < 2 ^ 32) ⌝ }
+    {
+        place
+            .kind_of(self.code, self.vendor_or_zero())
+            .fits(self.octets.len())
     }
 }

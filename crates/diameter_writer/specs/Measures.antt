@@ -1,0 +1,26 @@
+-- What is found before anything is written.
+use mathlib.Core.Bool.{true}
+use mathlib.Core.List.{List, [], _∷_}
+use mathlib.Core.Path.{_≡_}
+use Prim.Native.Nat.{ℕ, _^_, _<_}
+use Rattle.diameter.specs.declared.place.Kind.{Kind}
+use Rattle.diameter_writer.specs.Encoding.{vendorOf}
+use Rattle.diameter_writer.specs.Messages.{allFit, messageLen}
+use Rattle.diameter_writer.specs.declared.avp.Avp.{Avp}
+
+-- codes and vendors have four octets
+unfoldable pub Typed : List Avp → Type 0
+Typed [] = Unit {0}
+Typed (a ∷ rest) = (a .code < 2 ^ 32) × (vendorOf a < 2 ^ 32) × Typed rest
+
+module _ {P : Type 0} (kinds : P → ℕ → ℕ → Kind P) (p : P) (avps : List Avp) where
+  -- the message has this length, which three octets hold, and all its AVPs fit
+  pub record Measured (n : ℕ) : Type 0 where
+    pub total : n ≡ messageLen avps
+    pub small : n < 2 ^ 24
+    pub fits : allFit kinds p avps ≡ true
+    pub typed : Typed avps
+
+  -- the message is too long, or an AVP does not fit
+  abbrev pub Unmeasured : Type 0
+  Unmeasured = messageLen avps < 2 ^ 24 → allFit kinds p avps ≡ true → ⊥
