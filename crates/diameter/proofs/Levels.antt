@@ -33,11 +33,11 @@ framed-false k xs broken =
     (cases-lt (lengthOf xs) (headerLen xs)))
     (cases-lt (length xs) 8)
 
-both-left : (a b : Bool) → cond a b false ≡ true → a ≡ true
+pub both-left : (a b : Bool) → cond a b false ≡ true → a ≡ true
 both-left true b t = refl
 both-left false b t = t
 
-both-right : (a b : Bool) → cond a b false ≡ true → b ≡ true
+pub both-right : (a b : Bool) → cond a b false ≡ true → b ≡ true
 both-right true b t = t
 both-right false b t = absurd (let z : _≡_ {A = ℕ} 0 1 = cc in omega arith)
 

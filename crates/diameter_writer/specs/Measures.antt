@@ -7,6 +7,13 @@ use Rattle.diameter.specs.declared.place.Kind.{Kind}
 use Rattle.diameter_writer.specs.Encoding.{vendorOf}
 use Rattle.diameter_writer.specs.Messages.{allFit, messageLen}
 use Rattle.diameter_writer.specs.declared.avp.Avp.{Avp}
+use Rattle.diameter_writer.specs.declared.message.MessageFields.{MessageFields}
+
+-- the numbers of the header have four octets
+pub record FieldsTyped (f : MessageFields) : Type 0 where
+  pub application : f .application < 2 ^ 32
+  pub hop-by-hop : f .«hop_by_hop» < 2 ^ 32
+  pub end-to-end : f .«end_to_end» < 2 ^ 32
 
 -- codes and vendors have four octets
 unfoldable pub Typed : List Avp → Type 0

@@ -3,6 +3,8 @@ mod avp;
 mod measure;
 mod message;
 mod put;
+mod write;
 
 pub use avp::Avp;
 pub use message::MessageFields;
+pub use write::write_message;

@@ -8,7 +8,7 @@ ghost use Rattle.diameter_writer.specs.Encoding.{encodeAvp, lengthFor, vendorP
 ghost use Rattle.diameter_writer.specs.Writing.{Wrote};
 
 // Stores octets at a place, and answers where they end: all that is written goes through here.
-fn put(out: &mut [u8], at: usize, part: &[u8]) -> usize
+pub(crate) fn put(out: &mut [u8], at: usize, part: &[u8]) -> usize
     requires { ⌜ at + length (now part) ≤ length (now out) ⌝ }
     ensures end { λ r. ⌜ r ≡ at + length (now (part .entry)) ⌝ }
     ensures wrote { λ _. ⌜ Wrote (now (out .entry)) at (now (part .entry)) (now (out .exit)) ⌝ }
