@@ -1,0 +1,8 @@
+// Shows a Diameter message as text, and reads one from hexadecimal text.
+mod dictionary;
+mod hex;
+
+pub use dictionary::Part;
+pub use dictionary::PartPlace;
+pub use hex::HexError;
+pub use hex::read_hex;
