@@ -23,9 +23,16 @@ pub left-from : (l : List ℕ) (i : ℕ) → i < length l → drop i l ≡ getD 
 left-from l i h = drop-cons l i 0 h ∙ ap (λ n. getD l i 0 ∷ drop n l) (sym (add-one i))
 
 -- what a push that succeeded leaves
-pub grew : {A B : Type 0} {X : Type 0} (r : Result A B) (now more was : List X) → isErr r ≡ false → now ≡ cond (isOk r) more was → now ≡ more
+pub grew : {A B X : Type 0} (r : Result A B) (now more was : List X) → isErr r ≡ false → now ≡ cond (isOk r) more was → now ≡ more
 grew (Ok x) now more was ok is = is
 grew (Err e) now more was ok is = absurd (let z : _≡_ {A = ℕ} 0 1 = cc in omega arith)
+
+pub grew-ok : {A B X : Type 0} (r : Result A B) (x : A) (now more was : List X) → r ≡ Ok x → now ≡ cond (isOk r) more was → now ≡ more
+grew-ok r x now more was ok is = grew r now more was (ap isErr ok) is
+
+-- one addition after another is the addition of both
+pub chain : (was a mid b now : List ℕ) → mid ≡ was ++ a → now ≡ mid ++ b → now ≡ was ++ (a ++ b)
+chain was a mid b now first second = second ∙ ap (λ l. l ++ b) first ∙ append-assoc was a b
 
 -- i octets are written: with the rest they are the whole text
 pub record Written (old octets now : List ℕ) (i : ℕ) : Type 0 where

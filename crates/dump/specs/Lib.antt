@@ -1,2 +1,4 @@
 pub mod Dictionary
 pub mod Hex
+pub mod Lines
+pub mod Dump

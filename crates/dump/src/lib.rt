@@ -1,6 +1,7 @@
 // Shows a Diameter message as text, and reads one from hexadecimal text.
 mod dictionary;
 mod hex;
+mod line;
 
 pub use dictionary::Part;
 pub use dictionary::PartPlace;
