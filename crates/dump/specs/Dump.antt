@@ -18,12 +18,26 @@ use Rattle.dump.specs.Lines.{lineOf}
 use Rattle.dump.specs.declared.dictionary.Part.{Part}
 use Rattle.dump.specs.declared.dictionary.Part.the-variants.{Message}
 
--- the fields of the header, with the octets that the message really has
+-- what a header says of its message, with the octets that the message really has
+abbrev pub frameText : ℕ → ℕ → ℕ → ℕ → ℕ → List ℕ
+frameText version long octets flags command = codes "version " ++ (decimal version ++ (codes " length " ++ (decimal long ++ (codes " of " ++ (decimal octets ++ (codes " flags " ++ (decimal flags ++ (codes " command " ++ decimal command))))))))
+
+abbrev pub identifiersText : ℕ → ℕ → ℕ → List ℕ
+identifiersText application hop end = codes "application " ++ (decimal application ++ (codes " hop-by-hop " ++ (decimal hop ++ (codes " end-to-end " ++ decimal end))))
+
+-- a message that has no whole header
+abbrev pub shortText : ℕ → List ℕ
+shortText octets = codes "no header: " ++ (decimal octets ++ codes " octets, 20 wanted")
+
+-- a text, and the end of its line
+abbrev pub line : List ℕ → List ℕ
+line text = text ++ (10 ∷ [])
+
 unfoldable pub headerText : List ℕ → List ℕ
 headerText m =
     cond (ltb (length m) 20)
-    (codes "no header: " ++ (decimal (length m) ++ codes " octets, 20 wanted"))
-    (codes "version " ++ (decimal (getD m 0 0) ++ (codes " length " ++ (decimal (three m 1 2 3) ++ (codes " of " ++ (decimal (length m) ++ (codes " flags " ++ (decimal (getD m 4 0) ++ (codes " command " ++ (decimal (three m 5 6 7) ++ (codes " application " ++ (decimal (four m 8 9 10 11) ++ (codes " hop-by-hop " ++ (decimal (four m 12 13 14 15) ++ (codes " end-to-end " ++ decimal (four m 16 17 18 19))))))))))))))))
+    (line (shortText (length m)))
+    (line (frameText (getD m 0 0) (three m 1 2 3) (length m) (getD m 4 0) (three m 5 6 7)) ++ line (identifiersText (four m 8 9 10 11) (four m 12 13 14 15) (four m 16 17 18 19)))
 
 -- a line for each AVP, up to the end or to the fault
 unfoldable pub lines : Listing Part → List ℕ
@@ -31,10 +45,14 @@ lines done = []
 lines (fault at) = []
 lines (more e v l) = lineOf e v ++ lines l
 
+-- a fault, by its offset, its number and its Diameter code
+abbrev pub faultText : ℕ → ℕ → ℕ → List ℕ
+faultText offset number code = codes "fault at " ++ (decimal offset ++ (codes ": the AVP does not fit, does not cover its header, or is a number without four octets (refusal " ++ (decimal number ++ (codes ", Diameter code " ++ (decimal code ++ codes ")")))))
+
 -- how the list ends
 abbrev pub endText : Result (Unit {0}) Fault → List ℕ
-endText (Ok x) = codes "end: every AVP is well framed"
-endText (Err f) = codes "fault at " ++ (decimal (f .offset) ++ (codes ": the AVP does not fit, does not cover its header, or is a number without four octets (refusal " ++ (decimal (meaning (f .refusal) .number) ++ (codes ", Diameter code " ++ (decimal (meaning (f .refusal) .code) ++ codes ")")))))
+endText (Ok x) = line (codes "end: every AVP is well framed")
+endText (Err f) = line (faultText (f .offset) (meaning (f .refusal) .number) (meaning (f .refusal) .code))
 
 unfoldable pub dumpText : List ℕ → List ℕ
-dumpText m = headerText m ++ ((10 ∷ []) ++ (lines (listing kindsOf rankOf Message m) ++ (endText (framing (listing kindsOf rankOf Message m)) ++ (10 ∷ []))))
+dumpText m = headerText m ++ (lines (listing kindsOf rankOf Message m) ++ endText (framing (listing kindsOf rankOf Message m)))

@@ -1,5 +1,6 @@
 // Shows a Diameter message as text, and reads one from hexadecimal text.
 mod dictionary;
+mod dump;
 mod hex;
 mod line;
 

@@ -1,0 +1,123 @@
+use crate::dictionary::Part;
+use crate::dictionary::PartPlace;
+use crate::line::push;
+use crate::line::push_line;
+use diameter::Entry;
+use diameter::Item;
+use diameter::MessageHeader;
+use diameter::Visitor;
+use diameter::visit_message;
+use refusals::Fault;
+use refusals::Refusal;
+use refusals::RefusalPartialEq;
+ghost use mathlib.Core.List.{[], _∷_, _++_};
+ghost use mathlib.Core.Path.{_≡_};
+ghost use Rattle.std.specs.Of.String.{string-bytes};
+ghost use Rattle.std.specs.Of.Vec.{vec-items};
+ghost use Rattle.std.specs.Results.{Cases};
+ghost use Rattle.std.specs.Vec.{made};
+ghost use Rattle.refusals.specs.declared.refusal.Refusal.the-variants.{NoSpace};
+ghost use Rattle.dump.specs.Dump.{dumpText, endText, faultText, frameText, headerText, identifiersText, shortText};
+ghost use Rattle.dump.specs.Lines.{lineOf};
+use std::alloc::AllocError;
+use std::alloc::Global;
+
+// Adds a line for each AVP that it is shown; where memory runs out, it refuses.
+#[derive(Drop)]
+struct Lines {
+    heap: Global,
+    text: Vec<u8>,
+}
+
+impl Visitor<Part> for Lines as LinesVisitor {
+    ghost shows = { λ u e v a w. Cases a (λ _. vec-items (w .text) ≡ vec-items (u .text) ++ lineOf e v) (λ refusal. refusal ≡ NoSpace) };
+
+    fn show(&mut self, entry: &Entry<Part>, item: Item<'_>) -> Result<(), Refusal> {
+        match push_line(self.heap, &mut self.text, entry, item) {
+            Ok(()) => Ok(()),
+            Err(_) => Err(Refusal::NoSpace),
+        }
+    }
+}
+
+// What a header says of its message, with the octets that the message really has.
+fn frame_line(heap: Global, header: MessageHeader, octets: usize) -> Result<String, AllocError>
+    ensures { λ r. ⌜ made r (λ s. string-bytes s ≡ frameText (header .version) (header .length) octets (header .flags) (header .command)) ⌝ }
+{
+    let version = header.version;
+    let length = header.length;
+    let flags = header.flags;
+    let command = header.command;
+    format!(
+        heap,
+        "version {version} length {length} of {octets} flags {flags} command {command}"
+    )
+}
+
+// The application and the identifiers of a message.
+fn identifiers_line(heap: Global, header: MessageHeader) -> Result<String, AllocError>
+    ensures { λ r. ⌜ made r (λ s. string-bytes s ≡ identifiersText (header .application) (header .«hop_by_hop») (header .«end_to_end»)) ⌝ }
+{
+    let application = header.application;
+    let hop = header.hop_by_hop;
+    let end = header.end_to_end;
+    format!(
+        heap,
+        "application {application} hop-by-hop {hop} end-to-end {end}"
+    )
+}
+
+// The line of a message that has no whole header.
+fn short_line(heap: Global, octets: usize) -> Result<String, AllocError>
+    ensures { λ r. ⌜ made r (λ s. string-bytes s ≡ shortText octets) ⌝ }
+{
+    format!(heap, "no header: {octets} octets, 20 wanted")
+}
+
+// Adds a line to a text.
+fn push_text(text: &mut Vec<u8>, line: &String) -> Result<(), AllocError>
+    ensures { λ r. ⌜ made r (λ _. vec-items (now (text .exit)) ≡ vec-items (now (text .entry)) ++ (string-bytes (now (line .entry)) ++ (10 ∷ []))) ⌝ }
+{
+    push(text, line.as_bytes())?;
+    push(text, b"\n")?;
+    Ok(())
+}
+
+// Adds the lines of the header to a text.
+fn push_header(heap: Global, text: &mut Vec<u8>, message: &[u8]) -> Result<(), AllocError>
+    ensures { λ r. ⌜ made r (λ _. vec-items (now (text .exit)) ≡ vec-items (now (text .entry)) ++ headerText (now (message .entry))) ⌝ }
+{
+    match MessageHeader::read(message) {
+        Some(header) => {
+            push_text(text, &frame_line(heap, header, message.len())?)?;
+            push_text(text, &identifiers_line(heap, header)?)?;
+        }
+        None => push_text(text, &short_line(heap, message.len())?)?,
+    }
+    Ok(())
+}
+
+// The line of a fault.
+fn fault_line(heap: Global, offset: usize, number: u8, code: u16) -> Result<String, AllocError>
+    ensures { λ r. ⌜ made r (λ s. string-bytes s ≡ faultText offset number code) ⌝ }
+{
+    format!(
+        heap,
+        "fault at {offset}: the AVP does not fit, does not cover its header, or is a number without four octets (refusal {number}, Diameter code {code})"
+    )
+}
+
+// Adds the line that says how the AVPs end to a text.
+fn push_end(heap: Global, text: &mut Vec<u8>, end: Result<(), Fault>) -> Result<(), AllocError>
+    ensures { λ r. ⌜ made r (λ _. vec-items (now (text .exit)) ≡ vec-items (now (text .entry)) ++ endText end) ⌝ }
+{
+    match end {
+        Ok(()) => push(text, b"end: every AVP is well framed\n")?,
+        Err(fault) => {
+            let number = fault.refusal.number();
+            let code = fault.refusal.code();
+            push_text(text, &fault_line(heap, fault.offset, number, code)?)?;
+        }
+    }
+    Ok(())
+}
