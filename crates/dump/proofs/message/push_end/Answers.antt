@@ -2,7 +2,7 @@ use mathlib.Core.List.{[], _∷_, _++_}
 use mathlib.Core.Path.{_≡_, sym, ap, _∙_}
 use Rattle.std.specs.Of.Vec.{vec-items}
 use Rattle.dump.specs.Dump.{endText, faultText, line}
-use Rattle.dump.proofs.dump.push_end.Needs as need
+use Rattle.dump.proofs.message.push_end.Needs as need
 
 pub returns-in-Continue-push : need.returns-in-Continue-push
 returns-in-Continue-push c = c .in-Continue-push .ensures tt ∙ sym (ap (λ e. vec-items (c .args .text .now) ++ endText e) (c .in-Ok .is))

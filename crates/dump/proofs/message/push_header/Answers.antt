@@ -8,7 +8,7 @@ use Rattle.std.specs.Of.String.{string-bytes}
 use Rattle.std.specs.Of.Vec.{vec-items}
 use Rattle.dump.specs.Dump.{frameText, headerText, identifiersText, line, shortText}
 use Rattle.dump.proofs.Digits.{chain}
-use Rattle.dump.proofs.dump.push_header.Needs as need
+use Rattle.dump.proofs.message.push_header.Needs as need
 
 pub returns-in-Continue-push-text-2 : need.returns-in-Continue-push-text-2
 unfolding headerText

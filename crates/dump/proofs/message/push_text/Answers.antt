@@ -2,7 +2,7 @@ use mathlib.Core.List.{[], _∷_, _++_}
 use mathlib.Core.Path.{ap, _∙_}
 use Rattle.std.specs.Of.Vec.{vec-items}
 use Rattle.dump.proofs.Digits.{chain}
-use Rattle.dump.proofs.dump.push_text.Needs as need
+use Rattle.dump.proofs.message.push_text.Needs as need
 
 pub returns : need.returns
 returns c =

@@ -121,3 +121,24 @@ fn push_end(heap: Global, text: &mut Vec<u8>, end: Result<(), Fault>) -> Result<
     }
     Ok(())
 }
+
+// A message as text: its header, a line for each AVP, and how it ends.
+pub fn message_text(heap: Global, message: &[u8]) -> Result<Vec<u8>, AllocError>
+    ensures { λ r. ⌜ made r (λ v. vec-items v ≡ dumpText (now (message .entry))) ⌝ }
+{
+    let mut lines = Lines {
+        heap,
+        text: Vec::new(heap),
+    };
+    push_header(heap, &mut lines.text, message)?;
+    let end = visit_message(message, Part::Message, &mut lines);
+    if let Err(fault) = end {
+        if fault.refusal == Refusal::NoSpace {
+            return Err(AllocError);
+        }
+    }
+    let Lines { heap: _, text } = lines;
+    let mut text = text;
+    push_end(heap, &mut text, end)?;
+    Ok(text)
+}
