@@ -14,13 +14,17 @@ use Rattle.diameter.specs.Headers.{three, four}
 use Rattle.diameter.specs.Listing.{Listing, done, fault, more, listing}
 use Rattle.diameter.specs.Questions.{framing}
 use Rattle.dump.specs.Dictionary.{kindsOf, rankOf}
+use Rattle.dump.specs.Hex.{hexText}
 use Rattle.dump.specs.Lines.{lineOf}
 use Rattle.dump.specs.declared.dictionary.Part.{Part}
 use Rattle.dump.specs.declared.dictionary.Part.the-variants.{Message}
 
--- what a header says of its message, with the octets that the message really has
-abbrev pub frameText : ℕ → ℕ → ℕ → ℕ → ℕ → List ℕ
-frameText version long octets flags command = codes "version " ++ (decimal version ++ (codes " length " ++ (decimal long ++ (codes " of " ++ (decimal octets ++ (codes " flags " ++ (decimal flags ++ (codes " command " ++ decimal command))))))))
+-- what a header says of its message, with the octets that the message really has; the flags in hexadecimal
+abbrev pub frameText : ℕ → ℕ → ℕ → ℕ → List ℕ
+frameText version long octets command = codes "version " ++ (decimal version ++ (codes " length " ++ (decimal long ++ (codes " of " ++ (decimal octets ++ (codes " command " ++ (decimal command ++ codes " flags 0x")))))))
+
+abbrev pub frameLine : ℕ → ℕ → ℕ → ℕ → ℕ → List ℕ
+frameLine version long octets command flags = frameText version long octets command ++ (hexText (flags ∷ []) ++ (10 ∷ []))
 
 abbrev pub identifiersText : ℕ → ℕ → ℕ → List ℕ
 identifiersText application hop end = codes "application " ++ (decimal application ++ (codes " hop-by-hop " ++ (decimal hop ++ (codes " end-to-end " ++ decimal end))))
@@ -37,7 +41,7 @@ unfoldable pub headerText : List ℕ → List ℕ
 headerText m =
     cond (ltb (length m) 20)
     (line (shortText (length m)))
-    (line (frameText (getD m 0 0) (three m 1 2 3) (length m) (getD m 4 0) (three m 5 6 7)) ++ line (identifiersText (four m 8 9 10 11) (four m 12 13 14 15) (four m 16 17 18 19)))
+    (frameLine (getD m 0 0) (three m 1 2 3) (length m) (three m 5 6 7) (getD m 4 0) ++ line (identifiersText (four m 8 9 10 11) (four m 12 13 14 15) (four m 16 17 18 19)))
 
 -- a line for each AVP, up to the end or to the fault
 unfoldable pub lines : Listing Part → List ℕ

@@ -1,5 +1,6 @@
 use crate::dictionary::Part;
 use crate::dictionary::PartPlace;
+use crate::hex::push_hex;
 use crate::line::push;
 use crate::line::push_line;
 use diameter::Entry;
@@ -17,7 +18,7 @@ ghost use Rattle.std.specs.Of.Vec.{vec-items};
 ghost use Rattle.std.specs.Results.{Cases};
 ghost use Rattle.std.specs.Vec.{made};
 ghost use Rattle.refusals.specs.declared.refusal.Refusal.the-variants.{NoSpace};
-ghost use Rattle.dump.specs.Dump.{dumpText, endText, faultText, frameText, headerText, identifiersText, shortText};
+ghost use Rattle.dump.specs.Dump.{dumpText, endText, faultText, frameLine, frameText, headerText, identifiersText, shortText};
 ghost use Rattle.dump.specs.Lines.{lineOf};
 use std::alloc::AllocError;
 use std::alloc::Global;
@@ -40,17 +41,16 @@ impl Visitor<Part> for Lines as LinesVisitor {
     }
 }
 
-// What a header says of its message, with the octets that the message really has.
+// What a header says of its message, with the octets that the message really has, up to the flags.
 fn frame_line(heap: Global, header: MessageHeader, octets: usize) -> Result<String, AllocError>
-    ensures { λ r. ⌜ made r (λ s. string-bytes s ≡ frameText (header .version) (header .length) octets (header .flags) (header .command)) ⌝ }
+    ensures { λ r. ⌜ made r (λ s. string-bytes s ≡ frameText (header .version) (header .length) octets (header .command)) ⌝ }
 {
     let version = header.version;
     let length = header.length;
-    let flags = header.flags;
     let command = header.command;
     format!(
         heap,
-        "version {version} length {length} of {octets} flags {flags} command {command}"
+        "version {version} length {length} of {octets} command {command} flags 0x"
     )
 }
 
@@ -83,13 +83,29 @@ fn push_text(text: &mut Vec<u8>, line: &String) -> Result<(), AllocError>
     Ok(())
 }
 
+// Adds the first line of a header to a text.
+fn push_frame(
+    heap: Global,
+    text: &mut Vec<u8>,
+    header: MessageHeader,
+    octets: usize,
+) -> Result<(), AllocError>
+    ensures { λ r. ⌜ made r (λ _. vec-items (now (text .exit)) ≡ vec-items (now (text .entry)) ++ frameLine (header .version) (header .length) octets (header .command) (header .flags)) ⌝ }
+{
+    let fields = frame_line(heap, header, octets)?;
+    push(text, fields.as_bytes())?;
+    push_hex(text, &[header.flags])?;
+    push(text, b"\n")?;
+    Ok(())
+}
+
 // Adds the lines of the header to a text.
 fn push_header(heap: Global, text: &mut Vec<u8>, message: &[u8]) -> Result<(), AllocError>
     ensures { λ r. ⌜ made r (λ _. vec-items (now (text .exit)) ≡ vec-items (now (text .entry)) ++ headerText (now (message .entry))) ⌝ }
 {
     match MessageHeader::read(message) {
         Some(header) => {
-            push_text(text, &frame_line(heap, header, message.len())?)?;
+            push_frame(heap, text, header, message.len())?;
             push_text(text, &identifiers_line(heap, header)?)?;
         }
         None => push_text(text, &short_line(heap, message.len())?)?,

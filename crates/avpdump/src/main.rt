@@ -1,0 +1,32 @@
+// avpdump: reads a Diameter message as hexadecimal text from standard input and shows its header and its AVPs.
+use dump::HexError;
+use dump::message_text;
+use dump::read_hex;
+use std::error::AnyError;
+use std::io::Read;
+use std::io::Write;
+
+// What is wrong with the input, in words.
+fn complain(rt: &LibcRuntime, error: HexError) -> AnyError {
+    let told = match error {
+        HexError::NotADigit(at) => {
+            eprintln!(rt, "avpdump: no hexadecimal digit at character {at} of the input")
+        }
+        HexError::HalfOctet => eprintln!(rt, "avpdump: the last octet has only one digit"),
+        HexError::NoMemory => eprintln!(rt, "avpdump: not enough memory"),
+    };
+    let _ = told;
+    "the input is no message in hexadecimal".into()
+}
+
+fn main(rt: LibcRuntime) -> Result<(), AnyError> {
+    let mut input = Vec::new(rt.alloc());
+    rt.stdin().read_to_end(&mut input)?;
+    let octets = match read_hex(rt.alloc(), input.as_slice()) {
+        Ok(octets) => octets,
+        Err(error) => return Err(complain(&rt, error)),
+    };
+    let text = message_text(rt.alloc(), octets.as_slice())?;
+    rt.stdout().write_all(text.as_slice())?;
+    Ok(())
+}
