@@ -4,8 +4,15 @@ use mathlib.Core.List.{List}
 use mathlib.Core.Path.{_≡_}
 use Prim.Native.Nat.{ℕ, _^_, _≤_, _<_}
 use lib.Bits.{bitAnd}
-use lib.Dec.{eqb}
+use lib.Dec.{eqb, leb}
 use lib.ListN.{length, getD}
+use Rattle.std.specs.declared.option.Option.{Option}
+use Rattle.std.specs.declared.option.Option.the-variants.{Some, None}
+use Rattle.std.specs.declared.result.Result.{Result}
+use Rattle.std.specs.declared.result.Result.the-variants.{Ok, Err}
+use Rattle.refusals.specs.Faults.{faultAt}
+use Rattle.refusals.specs.declared.fault.Fault.{Fault}
+use Rattle.refusals.specs.declared.refusal.Refusal.the-variants.{MessageLength}
 use Rattle.diameter.specs.Octets.{be3, be4}
 use Rattle.diameter.specs.declared.headers.AvpHeader.{AvpHeader}
 use Rattle.diameter.specs.declared.headers.MessageHeader.{MessageHeader}
@@ -47,13 +54,22 @@ pub record AvpHeaderOf (xs : List ℕ) (h : AvpHeader) : Type 0 where
   pub length : h .length ≡ lengthOf xs
   pub small : h .length < 2 ^ 24
 
--- h has the fields of the message that xs begins with
-pub record MessageHeaderOf (xs : List ℕ) (h : MessageHeader) : Type 0 where
-  pub begun : 20 ≤ length xs
-  pub version : h .version ≡ getD xs 0 0
-  pub length : h .length ≡ three xs 1 2 3
-  pub flags : h .flags ≡ getD xs 4 0
-  pub command : h .command ≡ three xs 5 6 7
-  pub application : h .application ≡ four xs 8 9 10 11
-  pub hop-by-hop : h .«hop_by_hop» ≡ four xs 12 13 14 15
-  pub end-to-end : h .«end_to_end» ≡ four xs 16 17 18 19
+-- the header of the message m: 20 octets
+abbrev pub headerIn : List ℕ → MessageHeader
+headerIn m = record {
+  version = getD m 0 0;
+  length = three m 1 2 3;
+  flags = getD m 4 0;
+  command = three m 5 6 7;
+  application = four m 8 9 10 11;
+  «hop_by_hop» = four m 12 13 14 15;
+  «end_to_end» = four m 16 17 18 19;
+}
+
+-- the header, where the message has one
+abbrev pub headerRead : List ℕ → Option MessageHeader
+headerRead m = cond (leb 20 (length m)) (Some (headerIn m)) None
+
+-- has the message a header, and the length that its header says?
+abbrev pub lengthVerdict : List ℕ → Result (Unit {0}) Fault
+lengthVerdict m = cond (leb 20 (length m)) (cond (eqb (headerIn m .length) (length m)) (Ok tt) (Err (faultAt MessageLength 0))) (Err (faultAt MessageLength 0))

@@ -1,10 +1,12 @@
 use crate::octets::number3;
 use crate::octets::number4;
+use refusals::Fault;
+use refusals::Refusal;
 ghost use mathlib.Core.Path.{_≡_};
 ghost use Prim.Native.Nat.{_<_, _≤_};
 ghost use lib.ListN.{length};
 ghost use Rattle.std.specs.Options.{Cases as BySome};
-ghost use Rattle.diameter.specs.Headers.{AvpHeaderOf, MessageHeaderOf, headerLen};
+ghost use Rattle.diameter.specs.Headers.{AvpHeaderOf, headerLen, headerRead, lengthVerdict};
 
 // The octets of a message's header.
 pub const HEADER_LEN: usize = 20;
@@ -30,7 +32,7 @@ pub struct MessageHeader {
 impl MessageHeader {
     // The header that a message begins with, or none where it has less than 20 octets.
     pub fn read(message: &[u8]) -> Option<MessageHeader>
-        ensures { λ r. ⌜ BySome r (length (now (message .entry)) < 20) (λ h. MessageHeaderOf (now (message .entry)) h) ⌝ }
+        ensures { λ r. ⌜ r ≡ headerRead (now (message .entry)) ⌝ }
     {
         let [
             version,
@@ -67,6 +69,16 @@ impl MessageHeader {
             hop_by_hop: number4(*h0, *h1, *h2, *h3),
             end_to_end: number4(*e0, *e1, *e2, *e3),
         })
+    }
+}
+
+// Whether a message has a header, and the length that its header says.
+pub fn check_length(message: &[u8]) -> Result<(), Fault>
+    ensures { λ r. ⌜ r ≡ lengthVerdict (now (message .entry)) ⌝ }
+{
+    match MessageHeader::read(message) {
+        Some(header) if header.length as usize == message.len() => Ok(()),
+        _ => Err(Fault::at(Refusal::MessageLength, 0)),
     }
 }
 

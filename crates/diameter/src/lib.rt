@@ -19,6 +19,7 @@ pub use headers::HEADER_LEN;
 pub use headers::MANDATORY_FLAG;
 pub use headers::MessageHeader;
 pub use headers::VENDOR_FLAG;
+pub use headers::check_length;
 pub use place::Kind;
 pub use place::Place;
 pub use questions::check_framing;

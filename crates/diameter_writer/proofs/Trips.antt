@@ -6,7 +6,8 @@ use Prim.Native.Nat.{ℕ, suc, _+_, _-_, _*_, _/_, _%_, _≤_, _<_, _^_}
 use native.Mathlib.Nat.{mod-eq-of-lt}
 use native.Mathlib.Omega.{arith}
 use lib.Bits.{bitAnd}
-use lib.Dec.{eqb}
+use borrow.Author.Tests.{le-leb}
+use lib.Dec.{eqb, leb}
 use lib.ListN.{length, getD, take, drop, replicate, length-append}
 use Rattle.std.proofs.shelf.Bits.{shr-shr, div-add-mod'}
 use Rattle.std.proofs.shelf.Lists.{take-at, drop-at, length-replicate}
@@ -118,13 +119,13 @@ module _ {P : Type 0} (kinds : P → ℕ → ℕ → Kind P) (rank : P → ℕ) 
   -- a message that was written reads as what it was written from
   pub reads-as : (f : MessageFields) (avps : List Avp) → f .command < 2 ^ 24 → FieldsTyped f → messageLen avps < 2 ^ 24 → Typed avps → allFit kinds p avps ≡ true → ReadsAs kinds rank p f avps (encodeMessage f avps)
   unfolding encodeMessage listing listed
-  reads-as f avps command t small typed fits = record {
-    version = refl;
-    length = be3-triple (messageLen avps) small ∙ omega arith;
-    flags = refl;
-    command = be3-triple (f .command) command;
-    application = be4-quad (f .application) (t .application);
-    hop-by-hop = be4-quad (f .«hop_by_hop») (t .hop-by-hop);
-    end-to-end = be4-quad (f .«end_to_end») (t .end-to-end);
-    listed-avps = trips avps 20 typed fits (omega arith);
-  }
+  reads-as f avps command t small typed fits =
+      let m = encodeMessage f avps in
+      let long : length m ≡ messageLen avps = omega arith in
+      let has : leb 20 (length m) ≡ true = le-leb 20 (length m) (omega arith) in
+      record {
+        header =
+            ap (λ b. cond b (Some (read.headerIn m)) None) has
+            ∙ ap Some (λ i. record { version = f .version; length = (be3-triple (messageLen avps) small ∙ sym long) i; flags = f .flags; command = be3-triple (f .command) command i; application = be4-quad (f .application) (t .application) i; «hop_by_hop» = be4-quad (f .«hop_by_hop») (t .hop-by-hop) i; «end_to_end» = be4-quad (f .«end_to_end») (t .end-to-end) i });
+        listed-avps = trips avps 20 typed fits (omega arith);
+      }

@@ -2,16 +2,30 @@
 use mathlib.Core.List.{List, [], _∷_}
 use mathlib.Core.Path.{_≡_}
 use Prim.Native.Nat.{ℕ, _+_}
-use lib.ListN.{length, getD}
-use Rattle.diameter.specs.Headers.{three, four}
+use lib.ListN.{length}
+use Rattle.std.specs.declared.option.Option.the-variants.{Some}
+use Rattle.diameter.specs.Headers.{headerRead}
 use Rattle.diameter.specs.Listing.{Listing, done, more, append, members, listed, listing}
 use Rattle.diameter.specs.Values.{valueOf}
 use Rattle.diameter.specs.declared.entry.Entry.{Entry}
+use Rattle.diameter.specs.declared.headers.MessageHeader.{MessageHeader}
 use Rattle.diameter.specs.declared.place.Kind.{Kind}
 use Rattle.diameter_writer.specs.Encoding.{encodeAvp, flagsOf, headerLen, lengthFor, vendorOf}
 use Rattle.diameter_writer.specs.Messages.{encodeMessage}
 use Rattle.diameter_writer.specs.declared.avp.Avp.{Avp}
 use Rattle.diameter_writer.specs.declared.message.MessageFields.{MessageFields}
+
+-- the header of a message of a length
+abbrev pub headerFor : MessageFields → ℕ → MessageHeader
+headerFor f n = record {
+  version = f .version;
+  length = n;
+  flags = f .flags;
+  command = f .command;
+  application = f .application;
+  «hop_by_hop» = f .«hop_by_hop»;
+  «end_to_end» = f .«end_to_end»;
+}
 
 module _ {P : Type 0} (kinds : P → ℕ → ℕ → Kind P) (rank : P → ℕ) (p : P) where
   -- what the AVP is at the place p
@@ -37,13 +51,7 @@ module _ {P : Type 0} (kinds : P → ℕ → ℕ → Kind P) (rank : P → ℕ) 
   written at [] = done
   written at (a ∷ rest) = more (entryFor at a) (valueOf (kindFor a) (a .octets .now)) (append (members (listed kinds (rank p)) (kindFor a) at (at + headerLen a) (a .octets .now)) (written (at + length (encodeAvp a)) rest))
 
-  -- a message m reads as these fields and AVPs
+  -- the message m reads as these fields and AVPs
   pub record ReadsAs (f : MessageFields) (avps : List Avp) (m : List ℕ) : Type 0 where
-    pub version : getD m 0 0 ≡ f .version
-    pub length : three m 1 2 3 ≡ length m
-    pub flags : getD m 4 0 ≡ f .flags
-    pub command : three m 5 6 7 ≡ f .command
-    pub application : four m 8 9 10 11 ≡ f .application
-    pub hop-by-hop : four m 12 13 14 15 ≡ f .«hop_by_hop»
-    pub end-to-end : four m 16 17 18 19 ≡ f .«end_to_end»
+    pub header : headerRead m ≡ Some (headerFor f (length m))
     pub listed-avps : listing kinds rank p m ≡ written 20 avps
