@@ -10,7 +10,10 @@ use std::io::Write;
 fn complain(rt: &LibcRuntime, error: HexError) -> AnyError {
     let told = match error {
         HexError::NotADigit(at) => {
-            eprintln!(rt, "avpdump: no hexadecimal digit at character {at} of the input")
+            eprintln!(
+                rt,
+                "avpdump: no hexadecimal digit at character {at} of the input"
+            )
         }
         HexError::HalfOctet => eprintln!(rt, "avpdump: the last octet has only one digit"),
         HexError::NoMemory => eprintln!(rt, "avpdump: not enough memory"),

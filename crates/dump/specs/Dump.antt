@@ -3,16 +3,17 @@ use mathlib.Core.Bool.{cond}
 use mathlib.Core.List.{List, [], _∷_, _++_}
 use Prim.Native.Nat.{ℕ}
 use lib.Chars.{codes}
-use lib.Dec.{ltb}
-use lib.ListN.{length, getD}
+use lib.Dec.{eqb, leb}
+use lib.ListN.{length}
 use Rattle.std.specs.Written.{decimal}
 use Rattle.std.specs.declared.result.Result.{Result}
 use Rattle.std.specs.declared.result.Result.the-variants.{Ok, Err}
 use Rattle.refusals.specs.Meanings.{meaning}
 use Rattle.refusals.specs.declared.fault.Fault.{Fault}
-use Rattle.diameter.specs.Headers.{three, four}
+use Rattle.diameter.specs.Headers.{headerIn}
 use Rattle.diameter.specs.Listing.{Listing, done, fault, more, listing}
 use Rattle.diameter.specs.Questions.{framing}
+use Rattle.diameter.specs.declared.headers.MessageHeader.{MessageHeader}
 use Rattle.dump.specs.Dictionary.{kindsOf, rankOf}
 use Rattle.dump.specs.Hex.{hexText}
 use Rattle.dump.specs.Lines.{lineOf}
@@ -29,19 +30,24 @@ frameLine version long octets command flags = frameText version long octets comm
 abbrev pub identifiersText : ℕ → ℕ → ℕ → List ℕ
 identifiersText application hop end = codes "application " ++ (decimal application ++ (codes " hop-by-hop " ++ (decimal hop ++ (codes " end-to-end " ++ decimal end))))
 
--- a message that has no whole header
-abbrev pub shortText : ℕ → List ℕ
-shortText octets = codes "no header: " ++ (decimal octets ++ codes " octets, 20 wanted")
-
 -- a text, and the end of its line
 abbrev pub line : List ℕ → List ℕ
 line text = text ++ (10 ∷ [])
 
-unfoldable pub headerText : List ℕ → List ℕ
-headerText m =
-    cond (ltb (length m) 20)
-    (line (shortText (length m)))
-    (frameLine (getD m 0 0) (three m 1 2 3) (length m) (three m 5 6 7) (getD m 4 0) ++ line (identifiersText (four m 8 9 10 11) (four m 12 13 14 15) (four m 16 17 18 19)))
+-- a message that has no whole header
+abbrev pub shortText : ℕ → List ℕ
+shortText octets = codes "fault at 0: the message has " ++ (decimal octets ++ codes " octets, a header has 20 (refusal 7, Diameter code 5015)")
+
+-- a header that says another length
+abbrev pub lengthText : ℕ → ℕ → List ℕ
+lengthText long octets = codes "fault at 0: the header says " ++ (decimal long ++ (codes " octets, the message has " ++ (decimal octets ++ codes " (refusal 7, Diameter code 5015)")))
+
+abbrev pub lengthLine : ℕ → ℕ → List ℕ
+lengthLine long octets = cond (eqb long octets) [] (line (lengthText long octets))
+
+-- the lines of a header
+unfoldable pub headerText : MessageHeader → ℕ → List ℕ
+headerText h octets = frameLine (h .version) (h .length) octets (h .command) (h .flags) ++ (line (identifiersText (h .application) (h .«hop_by_hop») (h .«end_to_end»)) ++ lengthLine (h .length) octets)
 
 -- a line for each AVP, up to the end or to the fault
 unfoldable pub lines : Listing Part → List ℕ
@@ -58,5 +64,9 @@ abbrev pub endText : Result (Unit {0}) Fault → List ℕ
 endText (Ok x) = line (codes "end: every AVP is well framed")
 endText (Err f) = line (faultText (f .offset) (meaning (f .refusal) .number) (meaning (f .refusal) .code))
 
+-- the AVPs and how they end
+abbrev pub avpsText : List ℕ → List ℕ
+avpsText m = lines (listing kindsOf rankOf Message m) ++ endText (framing (listing kindsOf rankOf Message m))
+
 unfoldable pub dumpText : List ℕ → List ℕ
-dumpText m = headerText m ++ (lines (listing kindsOf rankOf Message m) ++ endText (framing (listing kindsOf rankOf Message m)))
+dumpText m = cond (leb 20 (length m)) (headerText (headerIn m) (length m) ++ avpsText m) (line (shortText (length m)))

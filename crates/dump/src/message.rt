@@ -18,7 +18,7 @@ ghost use Rattle.std.specs.Of.Vec.{vec-items};
 ghost use Rattle.std.specs.Results.{Cases};
 ghost use Rattle.std.specs.Vec.{made};
 ghost use Rattle.refusals.specs.declared.refusal.Refusal.the-variants.{NoSpace};
-ghost use Rattle.dump.specs.Dump.{dumpText, endText, faultText, frameLine, frameText, headerText, identifiersText, shortText};
+ghost use Rattle.dump.specs.Dump.{avpsText, dumpText, endText, faultText, frameLine, frameText, headerText, identifiersText, lengthLine, lengthText, shortText};
 ghost use Rattle.dump.specs.Lines.{lineOf};
 use std::alloc::AllocError;
 use std::alloc::Global;
@@ -71,7 +71,20 @@ fn identifiers_line(heap: Global, header: MessageHeader) -> Result<String, Alloc
 fn short_line(heap: Global, octets: usize) -> Result<String, AllocError>
     ensures { λ r. ⌜ made r (λ s. string-bytes s ≡ shortText octets) ⌝ }
 {
-    format!(heap, "no header: {octets} octets, 20 wanted")
+    format!(
+        heap,
+        "fault at 0: the message has {octets} octets, a header has 20 (refusal 7, Diameter code 5015)"
+    )
+}
+
+// The line of a header that says another length than the message has.
+fn length_line(heap: Global, length: u32, octets: usize) -> Result<String, AllocError>
+    ensures { λ r. ⌜ made r (λ s. string-bytes s ≡ lengthText length octets) ⌝ }
+{
+    format!(
+        heap,
+        "fault at 0: the header says {length} octets, the message has {octets} (refusal 7, Diameter code 5015)"
+    )
 }
 
 // Adds a line to a text.
@@ -99,17 +112,33 @@ fn push_frame(
     Ok(())
 }
 
-// Adds the lines of the header to a text.
-fn push_header(heap: Global, text: &mut Vec<u8>, message: &[u8]) -> Result<(), AllocError>
-    ensures { λ r. ⌜ made r (λ _. vec-items (now (text .exit)) ≡ vec-items (now (text .entry)) ++ headerText (now (message .entry))) ⌝ }
+// Adds a line to a text where a header says another length than the message has.
+fn push_length(
+    heap: Global,
+    text: &mut Vec<u8>,
+    length: u32,
+    octets: usize,
+) -> Result<(), AllocError>
+    ensures { λ r. ⌜ made r (λ _. vec-items (now (text .exit)) ≡ vec-items (now (text .entry)) ++ lengthLine length octets) ⌝ }
 {
-    match MessageHeader::read(message) {
-        Some(header) => {
-            push_frame(heap, text, header, message.len())?;
-            push_text(text, &identifiers_line(heap, header)?)?;
-        }
-        None => push_text(text, &short_line(heap, message.len())?)?,
+    if length as usize != octets {
+        push_text(text, &length_line(heap, length, octets)?)?;
     }
+    Ok(())
+}
+
+// Adds the lines of a header to a text.
+fn push_header(
+    heap: Global,
+    text: &mut Vec<u8>,
+    header: MessageHeader,
+    octets: usize,
+) -> Result<(), AllocError>
+    ensures { λ r. ⌜ made r (λ _. vec-items (now (text .exit)) ≡ vec-items (now (text .entry)) ++ headerText header octets) ⌝ }
+{
+    push_frame(heap, text, header, octets)?;
+    push_text(text, &identifiers_line(heap, header)?)?;
+    push_length(heap, text, header.length, octets)?;
     Ok(())
 }
 
@@ -138,15 +167,11 @@ fn push_end(heap: Global, text: &mut Vec<u8>, end: Result<(), Fault>) -> Result<
     Ok(())
 }
 
-// A message as text: its header, a line for each AVP, and how it ends.
-pub fn message_text(heap: Global, message: &[u8]) -> Result<Vec<u8>, AllocError>
-    ensures { λ r. ⌜ made r (λ v. vec-items v ≡ dumpText (now (message .entry))) ⌝ }
+// Adds a line for each AVP to a text, and how they end.
+fn add_avps(heap: Global, text: Vec<u8>, message: &[u8]) -> Result<Vec<u8>, AllocError>
+    ensures { λ r. ⌜ made r (λ v. vec-items v ≡ vec-items text ++ avpsText (now (message .entry))) ⌝ }
 {
-    let mut lines = Lines {
-        heap,
-        text: Vec::new(heap),
-    };
-    push_header(heap, &mut lines.text, message)?;
+    let mut lines = Lines { heap, text };
     let end = visit_message(message, Part::Message, &mut lines);
     if let Err(fault) = end {
         if fault.refusal == Refusal::NoSpace {
@@ -157,4 +182,17 @@ pub fn message_text(heap: Global, message: &[u8]) -> Result<Vec<u8>, AllocError>
     let mut text = text;
     push_end(heap, &mut text, end)?;
     Ok(text)
+}
+
+// A message as text: its header, a line for each AVP, and how it ends.
+pub fn message_text(heap: Global, message: &[u8]) -> Result<Vec<u8>, AllocError>
+    ensures { λ r. ⌜ made r (λ v. vec-items v ≡ dumpText (now (message .entry))) ⌝ }
+{
+    let mut text = Vec::new(heap);
+    let Some(header) = MessageHeader::read(message) else {
+        push_text(&mut text, &short_line(heap, message.len())?)?;
+        return Ok(text);
+    };
+    push_header(heap, &mut text, header, message.len())?;
+    add_avps(heap, text, message)
 }

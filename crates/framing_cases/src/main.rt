@@ -1,34 +1,41 @@
-// Puts the framing question to each message of a table on standard input. A line is a name, a space and the octets in
-// hexadecimal; a name that begins with `*` asks for the message cut at every place.
+// Puts the questions of framing to each message of a table on standard input. A line is a name, a space and the octets in
+// hexadecimal.
 use diameter::check_framing;
+use diameter::check_length;
 use dump::Part;
 use dump::PartPlace;
 use dump::read_hex;
+use refusals::Fault;
 use std::error::AnyError;
 use std::io;
+ghost use mathlib.Core.Path.{_≡_};
+ghost use Rattle.framing_cases.specs.Verdict.{verdict};
 
-// Prints whether a message is well framed, else the fault.
+// Whether a message has the length that its header says, and every AVP is well framed.
+fn judge(octets: &[u8]) -> Result<(), Fault>
+    ensures { λ r. ⌜ r ≡ verdict (now (octets .entry)) ⌝ }
+{
+    check_length(octets)?;
+    check_framing(octets, Part::Message)
+}
+
+// Prints the verdict on a message.
 fn print_verdict(rt: &LibcRuntime, name: &str, octets: &[u8]) -> io::Result<()> {
-    let count = octets.len();
-    match check_framing(octets, Part::Message) {
-        Ok(()) => println!(rt, "{name} ({count}): well framed"),
+    match judge(octets) {
+        Ok(()) => println!(rt, "{name}: well framed"),
         Err(fault) => {
             let number = fault.refusal.number();
             let code = fault.refusal.code();
             let offset = fault.offset;
-            println!(rt, "{name} ({count}): refusal {number}, code {code}, at offset {offset}")
+            println!(
+                rt,
+                "{name}: refusal {number}, code {code}, at offset {offset}"
+            )
         }
     }
 }
 
-// Prints the verdict on a message cut at every place.
-fn print_cuts(rt: &LibcRuntime, name: &str, octets: &[u8]) -> io::Result<()> {
-    for end in 0..octets.len() {
-        print_verdict(rt, name, &octets[0..end])?;
-    }
-    print_verdict(rt, name, octets)
-}
-
+// Runs one line of the table.
 fn run_case(rt: &LibcRuntime, line: &str) -> Result<(), AnyError> {
     let Some((name, hex)) = line.split_once(' ') else {
         return Err("a line has no space".into());
@@ -36,10 +43,7 @@ fn run_case(rt: &LibcRuntime, line: &str) -> Result<(), AnyError> {
     let Ok(octets) = read_hex(rt.alloc(), hex.as_bytes()) else {
         return Err("a line is not hexadecimal".into());
     };
-    match name.strip_prefix('*') {
-        Some(name) => print_cuts(rt, name, octets.as_slice())?,
-        None => print_verdict(rt, name, octets.as_slice())?,
-    }
+    print_verdict(rt, name, octets.as_slice())?;
     Ok(())
 }
 

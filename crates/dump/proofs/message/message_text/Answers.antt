@@ -1,33 +1,19 @@
 use mathlib.Core.List.{_++_}
-use mathlib.Core.Path.{_≡_, sym, ap, _∙_}
+use mathlib.Core.Path.{_≡_, ap, _∙_}
+use lib.ListN.{length}
 use Rattle.std.specs.Of.Vec.{vec-items}
-use Rattle.std.specs.declared.result.Result.the-variants.{Err}
-use Rattle.refusals.specs.Faults.{faultAt}
-use Rattle.refusals.specs.declared.refusal.Refusal.the-variants.{NoSpace}
-use Rattle.diameter.specs.Listing.{listing}
-use Rattle.diameter.specs.Questions.{framing}
-use Rattle.dump.specs.Dictionary.{kindsOf, rankOf}
-use Rattle.dump.specs.Dump.{dumpText, endText, headerText, lines}
-use Rattle.dump.specs.declared.dictionary.Part.the-variants.{Message}
-use Rattle.dump.specs.declared.message.Lines.{Lines}
-use Rattle.dump.proofs.Digits.{chain}
-use Rattle.dump.proofs.Visits.{true-not-false, shown-lines, all-there, ok-is-enough, other-is-enough}
+use Rattle.dump.specs.Dump.{avpsText, headerText, line}
+use Rattle.dump.proofs.Heads.{made-as, headed, headless}
 use Rattle.dump.proofs.message.message_text.Needs as need
-use Rattle.dump.proofs.message.message_text.Needs.{in-Err·else-eq, in-rest}
+
+pub returns-in-rest : need.returns-in-rest
+returns-in-rest c =
+    c .in-Continue-push-text .ensures tt
+    ∙ (λ i. c .new-text .ensures .items i ++ line (c .in-Continue-short-line .ensures tt i))
+    ∙ headless (c .args .message .now) (c .in-rest .ensures tt)
 
 pub returns : need.returns
-unfolding dumpText
 returns c =
     let m = c .args .message .now in
-    let l = listing kindsOf rankOf Message m in
-    let r = c .visit-message-end .result in
-    let start : Lines = record { heap = c .args .heap; text = c .push-header .last .text } in
-    let o = shown-lines l start (c .visit-message-end .last .visitor) r (c .visit-message-end .ensures) in
-    let ways : (c .match-end .end ≡ r) × (r ≡ Err (faultAt NoSpace 0) → ⊥) = elim (c .match-end .came) [
-      | in-Err·else-eq w ↦ (w .end-is ∙ sym (w .in-Err .is), λ e. other-is-enough (w .in-Err .fault) (faultAt NoSpace 0) (λ x. true-not-false (sym (w .eq .ensures .1 x) ∙ w .if-eq .left)) (sym (w .in-Err .is) ∙ e))
-      | in-rest w ↦ (w .end-is, λ e. ok-is-enough (w .in-rest .field-0) (faultAt NoSpace 0) (sym (w .in-rest .is) ∙ e))
-    ] in
-    let there = all-there start (c .visit-message-end .last .visitor) l r o (ways .1) in
-    let head : vec-items (c .push-header .last .text) ≡ headerText m = c .in-Continue-push-header .ensures tt ∙ ap (λ t. t ++ headerText m) (c .new .ensures .items) in
-    chain (vec-items (c .push-header .last .text)) (lines l) (vec-items (c .visit-message-end .last .visitor .text)) (endText (c .match-end .end)) (vec-items (c .push-end .last .text)) (there .0) (c .in-Continue-push-end .ensures tt)
-    ∙ (λ i. head i ++ (lines l ++ endText ((ways .0 ∙ there .1) i)))
+    let header : vec-items (c .push-header .last .text) ≡ headerText (c .in-Some .header) (length m) = c .in-Continue-push-header .ensures tt ∙ ap (λ t. t ++ headerText (c .in-Some .header) (length m)) (c .new-text .ensures .items) in
+    made-as (c .add-avps .result) vec-items _ _ (ap (λ t. t ++ avpsText m) header ∙ headed m (c .in-Some .header) (c .in-Some .ensures tt)) (c .add-avps .ensures)
