@@ -1,7 +1,7 @@
 // avpdump: reads a Diameter message as hexadecimal text from standard input and shows its header and its AVPs.
-use dump::HexError;
 use dump::message_text;
-use dump::read_hex;
+use hex_text::HexError;
+use hex_text::read_hex;
 use std::error::AnyError;
 use std::io::Read;
 use std::io::Write;

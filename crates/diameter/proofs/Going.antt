@@ -14,8 +14,8 @@ use Rattle.diameter.specs.Visiting.{Shown}
 use Rattle.diameter.specs.declared.cursor.Cursor.{Cursor}
 use Rattle.diameter.specs.declared.entry.Entry.{Entry}
 use Rattle.diameter.specs.declared.entry.Item.{Item}
-use Rattle.diameter.specs.declared.place.Kind.{Kind}
-use Rattle.diameter.specs.declared.place.Kind.the-variants.{Group}
+use Rattle.diameter_headers.specs.declared.place.Kind.{Kind}
+use Rattle.diameter_headers.specs.declared.place.Kind.the-variants.{Group}
 use Rattle.diameter.proofs.Steps.{ahead-done, ahead-fault, ahead-more, told-lies, members-group, members-none}
 use Rattle.diameter.proofs.Shows.{shown-then, shown-stops}
 

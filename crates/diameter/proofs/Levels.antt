@@ -10,11 +10,11 @@ use borrow.Author.Tests.{le-leb, lt-leb, leb-true}
 use lib.Dec.{leb}
 use lib.ListN.{length, drop}
 use Rattle.std.proofs.shelf.Tests.{cases-lt, cases-bool}
-use Rattle.diameter.specs.Framing.{framed, Framed, padded, fitting, dataOf}
-use Rattle.diameter.specs.Headers.{lengthOf, headerLen, plain}
+use Rattle.diameter_headers.specs.Framing.{framed, Framed, padded, fitting, dataOf}
+use Rattle.diameter_headers.specs.Headers.{lengthOf, headerLen, plain}
 use Rattle.diameter.specs.Listing.{Listing, done, fault, more, append, members, kindIn, entryAt, level}
 use Rattle.diameter.specs.Values.{valueOf}
-use Rattle.diameter.specs.declared.place.Kind.{Kind}
+use Rattle.diameter_headers.specs.declared.place.Kind.{Kind}
 
 pub framed-true : {P : Type 0} (k : Kind P) (xs : List ℕ) → Framed k xs → framed k xs ≡ true
 unfolding framed

@@ -3,5 +3,3 @@ pub mod Levels
 pub mod Steps
 pub mod Shows
 pub mod Going
-pub mod Asked
-pub mod Orders

@@ -12,16 +12,16 @@ use Rattle.std.specs.declared.option.Option.the-variants.{Some, None}
 use Rattle.std.specs.declared.result.Result.{Result}
 use Rattle.std.specs.declared.result.Result.the-variants.{Ok, Err}
 use Rattle.refusals.specs.declared.fault.Fault.{Fault}
-use Rattle.diameter.specs.Framing.{Framed, padded, dataOf}
-use Rattle.diameter.specs.Headers.{lengthOf, headerLen}
+use Rattle.diameter_headers.specs.Framing.{Framed, padded, dataOf}
+use Rattle.diameter_headers.specs.Headers.{lengthOf, headerLen}
 use Rattle.diameter.specs.Listing.{Listing, done, fault, more, append, members, kindIn, entryAt, level, listed, listing}
 use Rattle.diameter.specs.Reading.{Within, Told, Ended, Malformed, Read, window, left, ahead, opening}
 use Rattle.diameter.specs.Values.{held, valueOf}
 use Rattle.diameter.specs.declared.cursor.Cursor.{Cursor}
 use Rattle.diameter.specs.declared.entry.Entry.{Entry}
 use Rattle.diameter.specs.declared.entry.Item.{Item}
-use Rattle.diameter.specs.declared.place.Kind.{Kind}
-use Rattle.diameter.specs.declared.place.Kind.the-variants.{Unknown, Number, Octets, Group}
+use Rattle.diameter_headers.specs.declared.place.Kind.{Kind}
+use Rattle.diameter_headers.specs.declared.place.Kind.the-variants.{Unknown, Number, Octets, Group}
 use Rattle.diameter.proofs.Levels.{level-more, level-fault, level-done, header-least}
 
 pub window-length : (m : List ℕ) (c : Cursor) → Within m c → length (left m c) ≡ c .end - c .position

@@ -6,16 +6,16 @@ use native.Mathlib.Omega.{arith}
 use lib.ListN.{take, drop}
 use Rattle.std.specs.Holes.{between}
 use Rattle.std.proofs.shelf.Parts.{between-is}
-use Rattle.diameter.specs.Framing.{Framed, padded, dataOf}
-use Rattle.diameter.specs.Headers.{AvpHeaderOf, lengthOf, headerLen}
+use Rattle.diameter_headers.specs.Framing.{Framed, padded, dataOf}
+use Rattle.diameter_headers.specs.Headers.{AvpHeaderOf, lengthOf, headerLen}
 use Rattle.diameter.specs.Listing.{kindIn, entryAt}
 use Rattle.diameter.specs.Reading.{Told, window}
 use Rattle.diameter.specs.Values.{held, valueOf}
 use Rattle.diameter.specs.declared.cursor.Cursor.{Cursor}
 use Rattle.diameter.specs.declared.entry.Entry.{Entry}
 use Rattle.diameter.specs.declared.entry.Item.{Item}
-use Rattle.diameter.specs.declared.headers.AvpHeader.{AvpHeader}
-use Rattle.diameter.specs.declared.place.Kind.{Kind}
+use Rattle.diameter_headers.specs.declared.headers.AvpHeader.{AvpHeader}
+use Rattle.diameter_headers.specs.declared.place.Kind.{Kind}
 
 pub window-is : (m : List ℕ) (position end : ℕ) → between position end m ≡ window m position end
 unfolding window

@@ -1,9 +1,4 @@
-pub mod Octets
-pub mod Headers
-pub mod Framing
 pub mod Values
 pub mod Listing
 pub mod Reading
 pub mod Visiting
-pub mod Order
-pub mod Questions

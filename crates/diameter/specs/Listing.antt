@@ -3,12 +3,12 @@ use mathlib.Core.Bool.{cond}
 use mathlib.Core.List.{List, [], _∷_}
 use Prim.Native.Nat.{ℕ, zero, suc, _+_, _-_}
 use lib.ListN.{drop}
-use Rattle.diameter.specs.Framing.{padded, dataOf, framed}
-use Rattle.diameter.specs.Headers.{codeOf, flagsOf, lengthOf, headerLen, vendorOf}
+use Rattle.diameter_headers.specs.Framing.{padded, dataOf, framed}
+use Rattle.diameter_headers.specs.Headers.{codeOf, flagsOf, lengthOf, headerLen, vendorOf}
 use Rattle.diameter.specs.Values.{Value, valueOf}
 use Rattle.diameter.specs.declared.entry.Entry.{Entry}
-use Rattle.diameter.specs.declared.place.Kind.{Kind}
-use Rattle.diameter.specs.declared.place.Kind.the-variants.{Unknown, Number, Octets, Group}
+use Rattle.diameter_headers.specs.declared.place.Kind.{Kind}
+use Rattle.diameter_headers.specs.declared.place.Kind.the-variants.{Unknown, Number, Octets, Group}
 
 -- AVP after AVP, to the end, or to the offset of the first AVP that is not well framed
 pub data Listing (P : Type 0) : Type 0 where

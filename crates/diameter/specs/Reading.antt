@@ -11,14 +11,14 @@ use Rattle.std.specs.declared.result.Result.the-variants.{Ok, Err}
 use Rattle.refusals.specs.Faults.{faultAt}
 use Rattle.refusals.specs.declared.fault.Fault.{Fault}
 use Rattle.refusals.specs.declared.refusal.Refusal.the-variants.{AvpLength}
-use Rattle.diameter.specs.Framing.{Framed, padded, dataOf}
-use Rattle.diameter.specs.Headers.{lengthOf}
+use Rattle.diameter_headers.specs.Framing.{Framed, padded, dataOf}
+use Rattle.diameter_headers.specs.Headers.{lengthOf}
 use Rattle.diameter.specs.Listing.{Listing, level, listed, kindIn, entryAt}
 use Rattle.diameter.specs.Values.{held, valueOf}
 use Rattle.diameter.specs.declared.cursor.Cursor.{Cursor}
 use Rattle.diameter.specs.declared.entry.Entry.{Entry}
 use Rattle.diameter.specs.declared.entry.Item.{Item}
-use Rattle.diameter.specs.declared.place.Kind.{Kind}
+use Rattle.diameter_headers.specs.declared.place.Kind.{Kind}
 
 -- the cursor lies in the message
 pub record Within (m : List ℕ) (c : Cursor) : Type 0 where

@@ -1,11 +1,11 @@
 -- The data of an AVP: a number, or octets, or the octets of a group.
 use mathlib.Core.List.{List}
 use Prim.Native.Nat.{ℕ}
-use Rattle.diameter.specs.Headers.{four}
+use Rattle.diameter_headers.specs.Headers.{four}
 use Rattle.diameter.specs.declared.entry.Item.{Item}
 use Rattle.diameter.specs.declared.entry.Item.the-variants as item
-use Rattle.diameter.specs.declared.place.Kind.{Kind}
-use Rattle.diameter.specs.declared.place.Kind.the-variants.{Unknown, Number, Octets, Group}
+use Rattle.diameter_headers.specs.declared.place.Kind.{Kind}
+use Rattle.diameter_headers.specs.declared.place.Kind.the-variants.{Unknown, Number, Octets, Group}
 
 pub data Value : Type 0 where
   number : ℕ → Value

@@ -1,29 +1,22 @@
 use crate::cursor::Cursor;
 use crate::entry::Entry;
 use crate::entry::Item;
-use crate::headers::AvpHeader;
-use crate::octets::number4;
-use crate::place::Kind;
-use crate::place::Place;
+use diameter_headers::AvpHeader;
+use diameter_headers::Kind;
+use diameter_headers::Place;
+use diameter_headers::number4;
+use diameter_headers::padding;
 use refusals::Fault;
 use refusals::Refusal;
 ghost use mathlib.Core.Bool.{true};
 ghost use mathlib.Core.Path.{_≡_};
-ghost use Prim.Native.Nat.{_-_};
 ghost use lib.ListN.{length};
 ghost use Rattle.std.specs.Options.{Cases as BySome};
-ghost use Rattle.diameter.specs.Framing.{Framed, fitting, padded};
-ghost use Rattle.diameter.specs.Headers.{AvpHeaderOf};
+ghost use Rattle.diameter_headers.specs.Framing.{Framed, fitting};
+ghost use Rattle.diameter_headers.specs.Headers.{AvpHeaderOf};
 ghost use Rattle.diameter.specs.Listing.{kindIn};
 ghost use Rattle.diameter.specs.Reading.{Read, Within};
 ghost use Rattle.diameter.specs.Values.{held, valueOf};
-
-// How many octets of padding follow an AVP of this length.
-pub fn padding(length: usize) -> usize
-    ensures { λ r. ⌜ r ≡ padded length - length ⌝ }
-{
-    (4 - length % 4) % 4
-}
 
 // The header of the AVP that comes first and what the AVP is at the place, where it is well framed.
 fn frame<P: Place>(place: P, part: &[u8]) -> Option<(AvpHeader, Kind<P>)>

@@ -1,8 +1,8 @@
 use crate::cursor::Cursor;
 use crate::framing::read_avp;
-use crate::place::Kind;
-use crate::place::Place;
 use crate::visitor::Visitor;
+use diameter_headers::Kind;
+use diameter_headers::Place;
 use refusals::Fault;
 ghost use mathlib.Core.Path.{_≡_};
 ghost use Rattle.std.specs.Vec.{made};

@@ -9,8 +9,8 @@ use lib.ListN.{length, drop, getD, length-append}
 use lib.Seq.{drop-cons}
 use Rattle.std.proofs.shelf.Lists.{drop-all}
 use Rattle.std.specs.declared.option.Option.the-variants.{None}
-use Rattle.diameter.specs.Framing.{padded}
-use Rattle.diameter.specs.declared.place.Kind.{Kind}
+use Rattle.diameter_headers.specs.Framing.{padded}
+use Rattle.diameter_headers.specs.declared.place.Kind.{Kind}
 use Rattle.diameter_writer.specs.Encoding.{encodeAvp, encodeAvps, fitsAt, lengthFor, vendorOf}
 use Rattle.diameter_writer.specs.Measures.{Typed, Measured, Unmeasured}
 use Rattle.diameter_writer.specs.Messages.{allFit, messageLen}

@@ -5,7 +5,7 @@ use Prim.Native.Nat.{ℕ, _+_, _^_, _≤_, _<_}
 use native.Mathlib.Omega.{arith}
 use lib.ListN.{length, drop}
 use Rattle.std.proofs.shelf.Lists.{drop-all}
-use Rattle.diameter.specs.Framing.{padded}
+use Rattle.diameter_headers.specs.Framing.{padded}
 use Rattle.diameter_writer.specs.Encoding.{encodeAvp, encodeAvps, lengthFor}
 use Rattle.diameter_writer.specs.Writing.{Wrote}
 use Rattle.diameter_writer.specs.declared.avp.Avp.{Avp}

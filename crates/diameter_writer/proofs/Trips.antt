@@ -14,13 +14,13 @@ use Rattle.std.proofs.shelf.Lists.{take-at, drop-at, length-replicate}
 use Rattle.std.specs.Options.{isSome, valueOr}
 use Rattle.std.specs.declared.option.Option.{Option}
 use Rattle.std.specs.declared.option.Option.the-variants.{Some, None}
-use Rattle.diameter.specs.Framing.{Framed, padded, fitting}
-use Rattle.diameter.specs.Headers as read
+use Rattle.diameter_headers.specs.Framing.{Framed, padded, fitting}
+use Rattle.diameter_headers.specs.Headers as read
 use Rattle.diameter.specs.Listing.{Listing, done, more, append, members, listed, listing, level, entryAt, kindIn}
-use Rattle.diameter.specs.Octets.{be3, be4}
+use Rattle.diameter_headers.specs.Octets.{be3, be4}
 use Rattle.diameter.specs.Values.{valueOf}
 use Rattle.diameter.specs.declared.entry.Entry.{Entry}
-use Rattle.diameter.specs.declared.place.Kind.{Kind}
+use Rattle.diameter_headers.specs.declared.place.Kind.{Kind}
 use Rattle.diameter.proofs.Levels.{both-left, both-right, level-more, level-done}
 use Rattle.diameter_writer.specs.Encoding.{encodeAvp, encodeAvps, fitsAt, flagsOf, headerLen, lengthFor, quad, triple, vendorOf, vendorPart}
 use Rattle.diameter_writer.specs.Measures.{FieldsTyped, Typed}

@@ -7,7 +7,7 @@ use native.Mathlib.Nat.{zero-add}
 use native.Mathlib.Omega.{arith}
 use borrow.Author.Tests.{le-leb, lt-ltb}
 use lib.ListN.{length, drop}
-use Rattle.diameter.specs.declared.place.Kind.{Kind}
+use Rattle.diameter_headers.specs.declared.place.Kind.{Kind}
 use Rattle.diameter_writer.specs.Encoding.{encodeAvps}
 use Rattle.diameter_writer.specs.Messages.{allFit, encodeMessage, headerOctets, messageLen, writable}
 use Rattle.diameter_writer.specs.Writing.{Wrote}

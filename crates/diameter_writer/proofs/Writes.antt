@@ -10,7 +10,7 @@ use Rattle.std.proofs.shelf.Lists.{take-append-drop, take-at, drop-at, drop-dro
 use Rattle.std.specs.Options.{isSome}
 use Rattle.std.specs.declared.option.Option.{Option}
 use Rattle.std.specs.declared.option.Option.the-variants.{Some, None}
-use Rattle.diameter.specs.Framing.{padded}
+use Rattle.diameter_headers.specs.Framing.{padded}
 use Rattle.diameter_writer.specs.Encoding.{encodeAvp, flagsOf, headerLen, lengthFor, quad, triple, vendorPart}
 use Rattle.diameter_writer.specs.Writing.{Wrote}
 use Rattle.diameter_writer.specs.declared.avp.Avp.{Avp}

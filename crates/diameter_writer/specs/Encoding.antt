@@ -6,8 +6,8 @@ use lib.ListN.{length, replicate}
 use Rattle.std.specs.Options.{isSome, valueOr}
 use Rattle.std.specs.declared.option.Option.{Option}
 use Rattle.std.specs.declared.option.Option.the-variants.{Some, None}
-use Rattle.diameter.specs.Framing.{fitting, padded}
-use Rattle.diameter.specs.declared.place.Kind.{Kind}
+use Rattle.diameter_headers.specs.Framing.{fitting, padded}
+use Rattle.diameter_headers.specs.declared.place.Kind.{Kind}
 use Rattle.diameter_writer.specs.declared.avp.Avp.{Avp}
 
 -- a number in three and in four octets, the highest first

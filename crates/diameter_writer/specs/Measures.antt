@@ -3,7 +3,7 @@ use mathlib.Core.Bool.{true}
 use mathlib.Core.List.{List, [], _∷_}
 use mathlib.Core.Path.{_≡_}
 use Prim.Native.Nat.{ℕ, _^_, _<_}
-use Rattle.diameter.specs.declared.place.Kind.{Kind}
+use Rattle.diameter_headers.specs.declared.place.Kind.{Kind}
 use Rattle.diameter_writer.specs.Encoding.{vendorOf}
 use Rattle.diameter_writer.specs.Messages.{allFit, messageLen}
 use Rattle.diameter_writer.specs.declared.avp.Avp.{Avp}

@@ -4,7 +4,7 @@ use mathlib.Core.List.{List, [], _∷_, _++_}
 use Prim.Native.Nat.{ℕ, _+_, _^_, _<_}
 use lib.Dec.{leb, ltb}
 use lib.ListN.{length}
-use Rattle.diameter.specs.declared.place.Kind.{Kind}
+use Rattle.diameter_headers.specs.declared.place.Kind.{Kind}
 use Rattle.diameter_writer.specs.Encoding.{encodeAvps, fitsAt, quad, triple}
 use Rattle.diameter_writer.specs.declared.avp.Avp.{Avp}
 use Rattle.diameter_writer.specs.declared.message.MessageFields.{MessageFields}

@@ -4,12 +4,12 @@ use mathlib.Core.Path.{_≡_}
 use Prim.Native.Nat.{ℕ, _+_}
 use lib.ListN.{length}
 use Rattle.std.specs.declared.option.Option.the-variants.{Some}
-use Rattle.diameter.specs.Headers.{headerRead}
+use Rattle.diameter_headers.specs.Headers.{headerRead}
 use Rattle.diameter.specs.Listing.{Listing, done, more, append, members, listed, listing}
 use Rattle.diameter.specs.Values.{valueOf}
 use Rattle.diameter.specs.declared.entry.Entry.{Entry}
-use Rattle.diameter.specs.declared.headers.MessageHeader.{MessageHeader}
-use Rattle.diameter.specs.declared.place.Kind.{Kind}
+use Rattle.diameter_headers.specs.declared.headers.MessageHeader.{MessageHeader}
+use Rattle.diameter_headers.specs.declared.place.Kind.{Kind}
 use Rattle.diameter_writer.specs.Encoding.{encodeAvp, flagsOf, headerLen, lengthFor, vendorOf}
 use Rattle.diameter_writer.specs.Messages.{encodeMessage}
 use Rattle.diameter_writer.specs.declared.avp.Avp.{Avp}

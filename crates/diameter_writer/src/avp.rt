@@ -1,4 +1,4 @@
-use diameter::Place;
+use diameter_headers::Place;
 ghost use mathlib.Core.Path.{_≡_};
 ghost use Prim.Native.Nat.{_^_, _<_};
 ghost use Rattle.diameter_writer.specs.Encoding.{fitsAt, flagsOf, headerLen, vendorOf};

@@ -1,7 +1,7 @@
 use crate::avp::Avp;
-use diameter::HEADER_LEN;
-use diameter::Place;
-use diameter::padding;
+use diameter_headers::HEADER_LEN;
+use diameter_headers::Place;
+use diameter_headers::padding;
 ghost use mathlib.Core.Path.{_≡_};
 ghost use Rattle.std.specs.Options.{Cases as BySome};
 ghost use Rattle.diameter_writer.specs.Measures.{Measured, Unmeasured};

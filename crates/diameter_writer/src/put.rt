@@ -1,9 +1,9 @@
 use crate::avp::Avp;
-use diameter::padding;
+use diameter_headers::padding;
 ghost use mathlib.Core.Path.{_≡_};
 ghost use Prim.Native.Nat.{_+_, _^_, _<_, _≤_};
 ghost use lib.ListN.{length};
-ghost use Rattle.diameter.specs.Framing.{padded};
+ghost use Rattle.diameter_headers.specs.Framing.{padded};
 ghost use Rattle.diameter_writer.specs.Encoding.{encodeAvp, lengthFor, vendorPart};
 ghost use Rattle.diameter_writer.specs.Writing.{Wrote};
 

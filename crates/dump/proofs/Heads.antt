@@ -11,8 +11,8 @@ use Rattle.std.specs.declared.option.Option.{Option}
 use Rattle.std.specs.declared.option.Option.the-variants.{Some, None}
 use Rattle.std.specs.declared.result.Result.{Result}
 use Rattle.std.specs.declared.result.Result.the-variants.{Ok, Err}
-use Rattle.diameter.specs.Headers.{headerIn, headerRead}
-use Rattle.diameter.specs.declared.headers.MessageHeader.{MessageHeader}
+use Rattle.diameter_headers.specs.Headers.{headerIn, headerRead}
+use Rattle.diameter_headers.specs.declared.headers.MessageHeader.{MessageHeader}
 use Rattle.dump.specs.Dump.{avpsText, dumpText, headerText, line, shortText}
 
 pub made-as : {X Y : Type 0} (r : Result X Y) (f : X → List ℕ) (a b : List ℕ) → a ≡ b → made r (λ v. f v ≡ a) → made r (λ v. f v ≡ b)

@@ -6,7 +6,7 @@ use Prim.Native.Nat.{ℕ, _+_, _≤_, _<_}
 use lib.ListN.{length, drop, getD}
 use Rattle.std.proofs.shelf.Lists.{drop-all}
 use Rattle.dump.specs.Lines.{allPrintable, printable}
-use Rattle.dump.proofs.Digits.{left-from}
+use Rattle.hex_text.proofs.Digits.{left-from}
 
 -- the octets before i are printable: the rest decides
 pub record Passed (octets : List ℕ) (i : ℕ) : Type 0 where

@@ -14,15 +14,15 @@ use Rattle.refusals.specs.declared.fault.Fault.{Fault}
 use Rattle.refusals.specs.declared.refusal.Refusal.{Refusal}
 use Rattle.refusals.specs.declared.refusal.Refusal.the-variants.{NoSpace}
 use Rattle.diameter.specs.Listing.{Listing, done, fault, more}
-use Rattle.diameter.specs.Questions.{framing}
+use Rattle.diameter_checks.specs.Questions.{framing}
 use Rattle.diameter.specs.Values.{Value}
 use Rattle.diameter.specs.Visiting.{Shown}
 use Rattle.diameter.specs.declared.entry.Entry.{Entry}
 use Rattle.dump.specs.Dump.{lines}
 use Rattle.dump.specs.Lines.{lineOf}
-use Rattle.dump.specs.declared.dictionary.Part.{Part}
+use Rattle.gx_dictionary.specs.declared.dictionary.Part.{Part}
 use Rattle.dump.specs.declared.message.Lines.{Lines}
-use Rattle.dump.proofs.Digits.{chain}
+use Rattle.hex_text.proofs.Digits.{chain}
 
 abbrev pub Adds : Lines → Entry Part → Value → Result (Unit {0}) Refusal → Lines → Type 0
 Adds u e v a w = Cases a (λ _. vec-items (w .text) ≡ vec-items (u .text) ++ lineOf e v) (λ refusal. refusal ≡ NoSpace)

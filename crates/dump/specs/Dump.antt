@@ -10,15 +10,15 @@ use Rattle.std.specs.declared.result.Result.{Result}
 use Rattle.std.specs.declared.result.Result.the-variants.{Ok, Err}
 use Rattle.refusals.specs.Meanings.{meaning}
 use Rattle.refusals.specs.declared.fault.Fault.{Fault}
-use Rattle.diameter.specs.Headers.{headerIn}
+use Rattle.diameter_headers.specs.Headers.{headerIn}
 use Rattle.diameter.specs.Listing.{Listing, done, fault, more, listing}
-use Rattle.diameter.specs.Questions.{framing}
-use Rattle.diameter.specs.declared.headers.MessageHeader.{MessageHeader}
-use Rattle.dump.specs.Dictionary.{kindsOf, rankOf}
-use Rattle.dump.specs.Hex.{hexText}
+use Rattle.diameter_checks.specs.Questions.{framing}
+use Rattle.diameter_headers.specs.declared.headers.MessageHeader.{MessageHeader}
+use Rattle.gx_dictionary.specs.Dictionary.{kindsOf, rankOf}
+use Rattle.hex_text.specs.Hex.{hexText}
 use Rattle.dump.specs.Lines.{lineOf}
-use Rattle.dump.specs.declared.dictionary.Part.{Part}
-use Rattle.dump.specs.declared.dictionary.Part.the-variants.{Message}
+use Rattle.gx_dictionary.specs.declared.dictionary.Part.{Part}
+use Rattle.gx_dictionary.specs.declared.dictionary.Part.the-variants.{Message}
 
 -- what a header says of its message, with the octets that the message really has; the flags in hexadecimal
 abbrev pub frameText : ℕ → ℕ → ℕ → ℕ → List ℕ

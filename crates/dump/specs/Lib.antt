@@ -1,4 +1,2 @@
-pub mod Dictionary
-pub mod Hex
 pub mod Lines
 pub mod Dump

@@ -7,9 +7,9 @@ use lib.Dec.{eqb}
 use Rattle.std.specs.Written.{decimal}
 use Rattle.diameter.specs.Values.{Value, number, octets, group}
 use Rattle.diameter.specs.declared.entry.Entry.{Entry}
-use Rattle.dump.specs.Hex.{hexText, within}
-use Rattle.dump.specs.declared.dictionary.Part.{Part}
-use Rattle.dump.specs.declared.dictionary.Part.the-variants.{Message, ExperimentalResult, Remove, Install, Definition}
+use Rattle.hex_text.specs.Hex.{hexText, within}
+use Rattle.gx_dictionary.specs.declared.dictionary.Part.{Part}
+use Rattle.gx_dictionary.specs.declared.dictionary.Part.the-variants.{Message, ExperimentalResult, Remove, Install, Definition}
 
 -- two spaces for each group
 abbrev pub indentOf : Part → List ℕ

@@ -1,11 +1,5 @@
-// Shows a Diameter message as text, and reads one from hexadecimal text.
-mod dictionary;
-mod hex;
+// Shows a Diameter message as text.
 mod line;
 mod message;
 
-pub use dictionary::Part;
-pub use dictionary::PartPlace;
-pub use hex::HexError;
-pub use hex::read_hex;
 pub use message::message_text;

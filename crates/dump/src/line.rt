@@ -1,7 +1,7 @@
-use crate::dictionary::Part;
-use crate::hex::push_hex;
 use diameter::Entry;
 use diameter::Item;
+use gx_dictionary::Part;
+use hex_text::push_hex;
 ghost use mathlib.Core.List.{_++_};
 ghost use mathlib.Core.Path.{_≡_};
 ghost use Rattle.std.specs.Of.String.{string-bytes};

@@ -1,13 +1,13 @@
-use crate::dictionary::Part;
-use crate::dictionary::PartPlace;
-use crate::hex::push_hex;
 use crate::line::push;
 use crate::line::push_line;
 use diameter::Entry;
 use diameter::Item;
-use diameter::MessageHeader;
 use diameter::Visitor;
 use diameter::visit_message;
+use diameter_headers::MessageHeader;
+use gx_dictionary::Part;
+use gx_dictionary::PartPlace;
+use hex_text::push_hex;
 use refusals::Fault;
 use refusals::Refusal;
 use refusals::RefusalPartialEq;

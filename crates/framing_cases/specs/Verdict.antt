@@ -4,11 +4,11 @@ use Prim.Native.Nat.{ℕ}
 use Rattle.std.specs.declared.result.Result.{Result}
 use Rattle.std.specs.declared.result.Result.the-variants.{Ok, Err}
 use Rattle.refusals.specs.declared.fault.Fault.{Fault}
-use Rattle.diameter.specs.Headers.{lengthVerdict}
+use Rattle.diameter_headers.specs.Headers.{lengthVerdict}
 use Rattle.diameter.specs.Listing.{listing}
-use Rattle.diameter.specs.Questions.{framing}
-use Rattle.dump.specs.Dictionary.{kindsOf, rankOf}
-use Rattle.dump.specs.declared.dictionary.Part.the-variants.{Message}
+use Rattle.diameter_checks.specs.Questions.{framing}
+use Rattle.gx_dictionary.specs.Dictionary.{kindsOf, rankOf}
+use Rattle.gx_dictionary.specs.declared.dictionary.Part.the-variants.{Message}
 
 -- the first of two faults
 abbrev pub andThen : Result (Unit {0}) Fault → Result (Unit {0}) Fault → Result (Unit {0}) Fault

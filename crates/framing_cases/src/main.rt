@@ -1,10 +1,10 @@
 // Puts the questions of framing to each message of a table on standard input. A line is a name, a space and the octets in
 // hexadecimal.
-use diameter::check_framing;
-use diameter::check_length;
-use dump::Part;
-use dump::PartPlace;
-use dump::read_hex;
+use diameter_checks::check_framing;
+use diameter_headers::check_length;
+use gx_dictionary::Part;
+use gx_dictionary::PartPlace;
+use hex_text::read_hex;
 use refusals::Fault;
 use std::error::AnyError;
 use std::io;

@@ -76,13 +76,13 @@ pub const UPDATE_AVPS: [Avp<'static>; 9] = [
 #[cfg(test)]
 mod tests {
     use super::*;
-    use diameter::check_framing;
-    use diameter::check_length;
-    use diameter::find;
+    use diameter_checks::check_framing;
+    use diameter_checks::find;
+    use diameter_headers::check_length;
     use diameter_writer::write_message;
-    use dump::Part;
-    use dump::PartPlace;
     use dump::message_text;
+    use gx_dictionary::Part;
+    use gx_dictionary::PartPlace;
     use refusals::Fault;
     use refusals::FaultDebug;
     use refusals::FaultPartialEq;

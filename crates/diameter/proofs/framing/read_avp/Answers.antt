@@ -1,7 +1,7 @@
 use mathlib.Core.Path.{refl, sym, subst}
 use native.Mathlib.Omega.{arith}
 use Rattle.std.specs.Holes.{between}
-use Rattle.diameter.specs.Framing.{Framed}
+use Rattle.diameter_headers.specs.Framing.{Framed}
 use Rattle.diameter.specs.Listing.{kindIn}
 use Rattle.diameter.proofs.Tellings.{told, window-is}
 use Rattle.diameter.proofs.framing.read_avp.Needs as need

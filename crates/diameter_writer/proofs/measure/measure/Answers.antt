@@ -2,7 +2,7 @@ use mathlib.Core.Path.{_≡_, refl, sym, ap, subst, _∙_}
 use Prim.Native.Nat.{_+_, _-_, _≤_, _^_}
 use native.Mathlib.Omega.{arith}
 use lib.ListN.{length}
-use Rattle.diameter.specs.Framing.{padded}
+use Rattle.diameter_headers.specs.Framing.{padded}
 use Rattle.diameter_writer.specs.Encoding.{lengthFor}
 use Rattle.diameter_writer.proofs.Measuring.{Counting, item, counted-more, counted-all, too-long, no-fit}
 use Rattle.diameter_writer.proofs.measure.measure.Needs as need

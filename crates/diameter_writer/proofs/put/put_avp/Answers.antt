@@ -4,7 +4,7 @@ use Prim.Native.Nat.{ℕ, _+_, _-_}
 use native.Mathlib.Omega.{arith}
 use lib.ListN.{length, getD}
 use Rattle.std.proofs.shelf.Lists.{length-replicate}
-use Rattle.diameter.specs.Framing.{padded}
+use Rattle.diameter_headers.specs.Framing.{padded}
 use Rattle.diameter_writer.specs.Encoding.{quad, lengthFor, flagsOf}
 use Rattle.diameter_writer.proofs.Writes.{front, wrote-avp, wrote-length, encode-length, vendor-length, zeros-are}
 use Rattle.diameter_writer.proofs.put.put_avp.Needs as need

@@ -1,9 +1,9 @@
 use mathlib.Core.List.{[], _∷_, _++_}
 use mathlib.Core.Path.{_≡_, _∙_}
 use Rattle.std.specs.Of.Vec.{vec-items}
-use Rattle.dump.specs.Hex.{hexText}
+use Rattle.hex_text.specs.Hex.{hexText}
 use Rattle.dump.specs.Lines.{fieldsOf, headOf}
-use Rattle.dump.proofs.Digits.{chain}
+use Rattle.hex_text.proofs.Digits.{chain}
 use Rattle.dump.proofs.line.push_head.Needs as need
 
 pub returns : need.returns

@@ -3,7 +3,7 @@ use lib.Chars.{codes}
 use Rattle.std.specs.Of.Vec.{vec-items}
 use Rattle.diameter.specs.Values.{held}
 use Rattle.dump.specs.Lines.{headOf, lineOf, valueText}
-use Rattle.dump.proofs.Digits.{chain}
+use Rattle.hex_text.proofs.Digits.{chain}
 use Rattle.dump.proofs.line.push_line.Needs as need
 
 pub returns : need.returns

@@ -3,9 +3,9 @@ use mathlib.Core.List.{_++_}
 use mathlib.Core.Path.{sym, ap, _∙_}
 use lib.Chars.{codes}
 use Rattle.std.specs.Of.Vec.{vec-items}
-use Rattle.dump.specs.Hex.{hexText}
+use Rattle.hex_text.specs.Hex.{hexText}
 use Rattle.dump.specs.Lines.{allPrintable, octetsText}
-use Rattle.dump.proofs.Digits.{chain}
+use Rattle.hex_text.proofs.Digits.{chain}
 use Rattle.dump.proofs.line.push_octets.Needs as need
 
 pub returns-in-Continue-push-3 : need.returns-in-Continue-push-3

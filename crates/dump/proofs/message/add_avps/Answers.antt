@@ -5,12 +5,12 @@ use Rattle.std.specs.declared.result.Result.the-variants.{Err}
 use Rattle.refusals.specs.Faults.{faultAt}
 use Rattle.refusals.specs.declared.refusal.Refusal.the-variants.{NoSpace}
 use Rattle.diameter.specs.Listing.{listing}
-use Rattle.diameter.specs.Questions.{framing}
-use Rattle.dump.specs.Dictionary.{kindsOf, rankOf}
+use Rattle.diameter_checks.specs.Questions.{framing}
+use Rattle.gx_dictionary.specs.Dictionary.{kindsOf, rankOf}
 use Rattle.dump.specs.Dump.{endText, lines}
-use Rattle.dump.specs.declared.dictionary.Part.the-variants.{Message}
+use Rattle.gx_dictionary.specs.declared.dictionary.Part.the-variants.{Message}
 use Rattle.dump.specs.declared.message.Lines.{Lines}
-use Rattle.dump.proofs.Digits.{chain}
+use Rattle.hex_text.proofs.Digits.{chain}
 use Rattle.dump.proofs.Visits.{true-not-false, shown-lines, all-there, ok-is-enough, other-is-enough}
 use Rattle.dump.proofs.message.add_avps.Needs as need
 use Rattle.dump.proofs.message.add_avps.Needs.{in-Err·else-eq, in-rest}

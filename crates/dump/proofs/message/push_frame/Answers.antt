@@ -2,8 +2,8 @@ use mathlib.Core.List.{[], _∷_, _++_}
 use mathlib.Core.Path.{_≡_, ap, _∙_}
 use Rattle.std.specs.Of.Vec.{vec-items}
 use Rattle.dump.specs.Dump.{frameText}
-use Rattle.dump.specs.Hex.{hexText}
-use Rattle.dump.proofs.Digits.{chain}
+use Rattle.hex_text.specs.Hex.{hexText}
+use Rattle.hex_text.proofs.Digits.{chain}
 use Rattle.dump.proofs.message.push_frame.Needs as need
 
 pub returns : need.returns

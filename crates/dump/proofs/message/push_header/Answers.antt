@@ -3,7 +3,7 @@ use mathlib.Core.Path.{ap, _∙_}
 use Rattle.std.specs.Of.String.{string-bytes}
 use Rattle.std.specs.Of.Vec.{vec-items}
 use Rattle.dump.specs.Dump.{frameLine, headerText, lengthLine, line}
-use Rattle.dump.proofs.Digits.{chain}
+use Rattle.hex_text.proofs.Digits.{chain}
 use Rattle.dump.proofs.message.push_header.Needs as need
 
 pub returns : need.returns

@@ -1,7 +1,7 @@
 use mathlib.Core.List.{[], _∷_, _++_}
 use mathlib.Core.Path.{ap, _∙_}
 use Rattle.std.specs.Of.Vec.{vec-items}
-use Rattle.dump.proofs.Digits.{chain}
+use Rattle.hex_text.proofs.Digits.{chain}
 use Rattle.dump.proofs.message.push_text.Needs as need
 
 pub returns : need.returns
