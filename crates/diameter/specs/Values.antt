@@ -15,7 +15,7 @@ pub data Value : Type 0 where
 -- what the octets ys are to an AVP of a kind
 abbrev pub valueOf : {P : Type 0} → Kind P → List ℕ → Value
 valueOf Unknown ys = octets ys
-valueOf Number ys = number (four ys 0 1 2 3)
+valueOf Number ys = number (four ys 0)
 valueOf Octets ys = octets ys
 valueOf (Group q) ys = group ys
 

@@ -2,7 +2,7 @@
 use mathlib.Core.Bool.{Bool, cond}
 use mathlib.Core.List.{List}
 use mathlib.Core.Path.{_≡_}
-use Prim.Native.Nat.{ℕ, _^_, _≤_, _<_}
+use Prim.Native.Nat.{ℕ, _+_, _^_, _≤_, _<_}
 use lib.Bits.{bitAnd}
 use lib.Dec.{eqb, leb}
 use lib.ListN.{length, getD}
@@ -17,22 +17,22 @@ use Rattle.diameter_headers.specs.Octets.{be3, be4}
 use Rattle.diameter_headers.specs.declared.headers.AvpHeader.{AvpHeader}
 use Rattle.diameter_headers.specs.declared.headers.MessageHeader.{MessageHeader}
 
--- the numbers in the three and in the four octets at a place
-abbrev pub three : List ℕ → ℕ → ℕ → ℕ → ℕ
-three xs i j k = be3 (getD xs i 0) (getD xs j 0) (getD xs k 0)
+-- the number in the three octets from i on, and in the four
+abbrev pub three : List ℕ → ℕ → ℕ
+three xs i = be3 (getD xs i 0) (getD xs (i + 1) 0) (getD xs (i + 2) 0)
 
-abbrev pub four : List ℕ → ℕ → ℕ → ℕ → ℕ → ℕ
-four xs i j k l = be4 (getD xs i 0) (getD xs j 0) (getD xs k 0) (getD xs l 0)
+abbrev pub four : List ℕ → ℕ → ℕ
+four xs i = be4 (getD xs i 0) (getD xs (i + 1) 0) (getD xs (i + 2) 0) (getD xs (i + 3) 0)
 
 -- an AVP: four octets of code, one of flags, three of length
 abbrev pub codeOf : List ℕ → ℕ
-codeOf xs = four xs 0 1 2 3
+codeOf xs = four xs 0
 
 abbrev pub flagsOf : List ℕ → ℕ
 flagsOf xs = getD xs 4 0
 
 abbrev pub lengthOf : List ℕ → ℕ
-lengthOf xs = three xs 5 6 7
+lengthOf xs = three xs 5
 
 -- and four of vendor, unless the flag V (0x80) is clear
 abbrev pub plain : List ℕ → Bool
@@ -42,9 +42,9 @@ abbrev pub headerLen : List ℕ → ℕ
 headerLen xs = cond (plain xs) 8 12
 
 abbrev pub vendorOf : List ℕ → ℕ
-vendorOf xs = cond (plain xs) 0 (four xs 8 9 10 11)
+vendorOf xs = cond (plain xs) 0 (four xs 8)
 
--- h has the fields of the AVP that xs begins with
+-- all of the header is there, and h has the fields of the AVP that xs begins with
 pub record AvpHeaderOf (xs : List ℕ) (h : AvpHeader) : Type 0 where
   pub begun : headerLen xs ≤ length xs
   pub code : h .code ≡ codeOf xs
@@ -58,12 +58,12 @@ pub record AvpHeaderOf (xs : List ℕ) (h : AvpHeader) : Type 0 where
 abbrev pub headerIn : List ℕ → MessageHeader
 headerIn m = record {
   version = getD m 0 0;
-  length = three m 1 2 3;
+  length = three m 1;
   flags = getD m 4 0;
-  command = three m 5 6 7;
-  application = four m 8 9 10 11;
-  «hop_by_hop» = four m 12 13 14 15;
-  «end_to_end» = four m 16 17 18 19;
+  command = three m 5;
+  application = four m 8;
+  «hop_by_hop» = four m 12;
+  «end_to_end» = four m 16;
 }
 
 -- the header, where the message has one

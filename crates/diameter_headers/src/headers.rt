@@ -3,7 +3,7 @@ use crate::octets::number4;
 use refusals::Fault;
 use refusals::Refusal;
 ghost use mathlib.Core.Path.{_≡_};
-ghost use Prim.Native.Nat.{_-_, _<_, _≤_};
+ghost use Prim.Native.Nat.{_-_, _<_};
 ghost use lib.ListN.{length};
 ghost use Rattle.std.specs.Options.{Cases as BySome};
 ghost use Rattle.diameter_headers.specs.Framing.{padded};
@@ -11,6 +11,10 @@ ghost use Rattle.diameter_headers.specs.Headers.{AvpHeaderOf, headerLen, heade
 
 // The octets of a message's header.
 pub const HEADER_LEN: usize = 20;
+
+// The octets of an AVP's header, without a vendor and with one.
+pub const PLAIN_HEADER_LEN: usize = 8;
+pub const VENDOR_HEADER_LEN: usize = 12;
 
 // The AVP flag V: a vendor follows the length.
 pub const VENDOR_FLAG: u8 = 0x80;
@@ -103,7 +107,7 @@ pub struct AvpHeader {
 impl AvpHeader {
     // The header of the AVP that comes first, or none where not all of it is there. Without the flag V the vendor is 0.
     pub fn read(part: &[u8]) -> Option<AvpHeader>
-        ensures { λ r. ⌜ BySome r ((8 ≤ length (now (part .entry)) → length (now (part .entry)) < headerLen (now (part .entry)))) (λ h. AvpHeaderOf (now (part .entry)) h) ⌝ }
+        ensures { λ r. ⌜ BySome r (length (now (part .entry)) < headerLen (now (part .entry))) (λ h. AvpHeaderOf (now (part .entry)) h) ⌝ }
     {
         let [c0, c1, c2, c3, flags, l0, l1, l2, rest @ ..] = part else {
             return None;
@@ -116,7 +120,7 @@ impl AvpHeader {
                 code,
                 flags,
                 vendor: 0,
-                header: 8,
+                header: PLAIN_HEADER_LEN,
                 length,
             });
         }
@@ -128,7 +132,7 @@ impl AvpHeader {
             code,
             flags,
             vendor,
-            header: 12,
+            header: VENDOR_HEADER_LEN,
             length,
         })
     }

@@ -26,7 +26,7 @@ impl<P: Copy> Kind<P> {
 }
 
 // A dictionary: where an AVP can stand (in the message or in a group), and what each is there.
-// `rank` is how deep groups nest below a place: the place of a group's members is one lower.
+// The place of a group's members ranks one below the place that the group stands in, so that nesting ends.
 pub trait Place: Copy {
     ghost kinds: { Self → ℕ → ℕ → Kind Self };
 

@@ -11,7 +11,7 @@ use Rattle.std.proofs.shelf.Lists.{drop-all}
 use Rattle.std.specs.declared.option.Option.the-variants.{None}
 use Rattle.diameter_headers.specs.Framing.{padded}
 use Rattle.diameter_headers.specs.declared.place.Kind.{Kind}
-use Rattle.diameter_writer.specs.Encoding.{encodeAvp, encodeAvps, fitsAt, lengthFor, vendorOf}
+use Rattle.diameter_writer.specs.Encoding.{encodeAvp, encodeAvps, fitsAt, lengthFor, vendorFor}
 use Rattle.diameter_writer.specs.Measures.{Typed, Measured, Unmeasured}
 use Rattle.diameter_writer.specs.Messages.{allFit, messageLen}
 use Rattle.diameter_writer.specs.declared.avp.Avp.{Avp}
@@ -54,7 +54,7 @@ module _ {P : Type 0} (kinds : P → ℕ → ℕ → Kind P) (p : P) (avps : Lis
     unfolding allFit
     fits-more = t .fits ∙ ap (allFit kinds p) left
 
-    pub counted-more : fitsAt kinds p a ≡ true → a .code < 2 ^ 32 → vendorOf a < 2 ^ 32 → (next : ℕ) → next ≡ total + padded (lengthFor a) → next < 2 ^ 24 → Counting (i + 1) next
+    pub counted-more : fitsAt kinds p a ≡ true → a .code < 2 ^ 32 → vendorFor a < 2 ^ 32 → (next : ℕ) → next ≡ total + padded (lengthFor a) → next < 2 ^ 24 → Counting (i + 1) next
     unfolding Typed
     counted-more fit code vendor next is small = record {
       sum = sum-more ∙ omega arith;

@@ -22,7 +22,7 @@ use Rattle.diameter.specs.Values.{valueOf}
 use Rattle.diameter.specs.declared.entry.Entry.{Entry}
 use Rattle.diameter_headers.specs.declared.place.Kind.{Kind}
 use Rattle.diameter.proofs.Levels.{both-left, both-right, level-more, level-done}
-use Rattle.diameter_writer.specs.Encoding.{encodeAvp, encodeAvps, fitsAt, flagsOf, headerLen, lengthFor, quad, triple, vendorOf, vendorPart}
+use Rattle.diameter_writer.specs.Encoding.{encodeAvp, encodeAvps, fitsAt, flagsFor, headerLenFor, lengthFor, quad, triple, vendorFor, vendorPart}
 use Rattle.diameter_writer.specs.Measures.{FieldsTyped, Typed}
 use Rattle.diameter_writer.specs.Messages.{allFit, encodeMessage, headerOctets, messageLen}
 use Rattle.diameter_writer.specs.Written.{ReadsAs, entryFor, kindFor, written}
@@ -66,13 +66,13 @@ module _ (c0 c1 c2 c3 f l0 l1 l2 : ℕ) (w rest : List ℕ) where
   after-header None = refl
   after-header (Some v) = refl
 
-  vendor-read : (v : Option ℕ) → valueOr v 0 < 2 ^ 32 → cond (not (isSome v)) 0 (read.four (from v) 8 9 10 11) ≡ valueOr v 0
+  vendor-read : (v : Option ℕ) → valueOr v 0 < 2 ^ 32 → cond (not (isSome v)) 0 (read.four (from v) 8) ≡ valueOr v 0
   vendor-read None small = refl
   vendor-read (Some v) small = be4-quad v small
 
 module _ {P : Type 0} (kinds : P → ℕ → ℕ → Kind P) (inner : P → ℕ → ℕ → List ℕ → Listing P) (p : P) where
   -- an AVP that was written comes first in the list, and the list goes on after it
-  pub trip : (a : Avp) (at : ℕ) (rest : List ℕ) → a .code < 2 ^ 32 → vendorOf a < 2 ^ 32 → lengthFor a < 2 ^ 24 → fitsAt kinds p a ≡ true → level kinds inner p 0 0 at (encodeAvp a ++ rest) ≡ more (entryFor kinds (λ _. 0) p at a) (valueOf (kindFor kinds (λ _. 0) p a) (a .octets .now)) (append (members inner (kindFor kinds (λ _. 0) p a) at (at + headerLen a) (a .octets .now)) (level kinds inner p 0 0 (at + length (encodeAvp a)) rest))
+  pub trip : (a : Avp) (at : ℕ) (rest : List ℕ) → a .code < 2 ^ 32 → vendorFor a < 2 ^ 32 → lengthFor a < 2 ^ 24 → fitsAt kinds p a ≡ true → level kinds inner p 0 0 at (encodeAvp a ++ rest) ≡ more (entryFor kinds (λ _. 0) p at a) (valueOf (kindFor kinds (λ _. 0) p a) (a .octets .now)) (append (members inner (kindFor kinds (λ _. 0) p a) at (at + headerLenFor a) (a .octets .now)) (level kinds inner p 0 0 (at + length (encodeAvp a)) rest))
   unfolding encodeAvp entryAt
   trip a at rest code vendor small fits =
       let n = lengthFor a in
@@ -85,9 +85,9 @@ module _ {P : Type 0} (kinds : P → ℕ → ℕ → Kind P) (inner : P → ℕ 
       let pc : read.codeOf xs ≡ a .code = be4-quad (a .code) code in
       let pl : read.lengthOf xs ≡ n = be3-triple n small in
       let pp : read.plain xs ≡ not (isSome (a .vendor)) = plain-is (a .vendor) (a .mandatory) in
-      let ph : read.headerLen xs ≡ headerLen a = ap (λ b. cond b 8 12) pp ∙ header-is (a .vendor) in
-      let pv : read.vendorOf xs ≡ vendorOf a = ap (λ b. cond b 0 (read.four xs 8 9 10 11)) pp ∙ vendor-read (getD q 0 0) (getD q 1 0) (getD q 2 0) (getD q 3 0) (flagsOf a) (getD t 0 0) (getD t 1 0) (getD t 2 0) w rest (a .vendor) vendor in
-      let pt : drop (read.headerLen xs) xs ≡ w ++ rest = ap (λ k. drop k xs) ph ∙ after-header (getD q 0 0) (getD q 1 0) (getD q 2 0) (getD q 3 0) (flagsOf a) (getD t 0 0) (getD t 1 0) (getD t 2 0) w rest (a .vendor) in
+      let ph : read.headerLen xs ≡ headerLenFor a = ap (λ b. cond b 8 12) pp ∙ header-is (a .vendor) in
+      let pv : read.vendorOf xs ≡ vendorFor a = ap (λ b. cond b 0 (read.four xs 8)) pp ∙ vendor-read (getD q 0 0) (getD q 1 0) (getD q 2 0) (getD q 3 0) (flagsFor a) (getD t 0 0) (getD t 1 0) (getD t 2 0) w rest (a .vendor) vendor in
+      let pt : drop (read.headerLen xs) xs ≡ w ++ rest = ap (λ k. drop k xs) ph ∙ after-header (getD q 0 0) (getD q 1 0) (getD q 2 0) (getD q 3 0) (flagsFor a) (getD t 0 0) (getD t 1 0) (getD t 2 0) w rest (a .vendor) in
       let pn : read.lengthOf xs - read.headerLen xs ≡ length octets = (λ i. pl i - ph i) ∙ omega arith in
       let po : take (read.lengthOf xs - read.headerLen xs) (drop (read.headerLen xs) xs) ≡ octets = (λ i. take (pn i) (pt i)) ∙ ap (take (length octets)) (append-assoc octets fill rest) ∙ take-at octets (fill ++ rest) (length octets) refl in
       let pk : kindIn kinds p xs ≡ kindFor kinds (λ _. 0) p a = λ i. kinds p (pc i) (pv i) in
@@ -100,11 +100,11 @@ module _ {P : Type 0} (kinds : P → ℕ → ℕ → Kind P) (inner : P → ℕ 
         whole = omega (arith, pad, long, both);
         fits = (λ i. fitting (pk i) (pn i)) ∙ fits;
       } in
-      let pe : entryAt kinds p 0 at xs ≡ entryFor kinds (λ _. 0) p at a = λ i. record { place = p; parent = 0; offset = at; code = pc i; vendor = pv i; flags = flagsOf a; kind = pk i; start = at + ph i; end = at + pl i } in
+      let pe : entryAt kinds p 0 at xs ≡ entryFor kinds (λ _. 0) p at a = λ i. record { place = p; parent = 0; offset = at; code = pc i; vendor = pv i; flags = flagsFor a; kind = pk i; start = at + ph i; end = at + pl i } in
       let end : padded (read.lengthOf xs) ≡ length (encodeAvp a) = pad ∙ sym long in
       level-more kinds inner p 0 at xs f
       ∙ (λ i. more (pe i) (valueOf (pk i) (po i)) (append (members inner (pk i) at (at + ph i) (po i)) (level kinds inner p 0 0 (at + end i) (drop (end i) xs))))
-      ∙ ap (λ l. more (entryFor kinds (λ _. 0) p at a) (valueOf (kindFor kinds (λ _. 0) p a) octets) (append (members inner (kindFor kinds (λ _. 0) p a) at (at + headerLen a) octets) (level kinds inner p 0 0 (at + length (encodeAvp a)) l))) (drop-at (encodeAvp a) rest (length (encodeAvp a)) refl)
+      ∙ ap (λ l. more (entryFor kinds (λ _. 0) p at a) (valueOf (kindFor kinds (λ _. 0) p a) octets) (append (members inner (kindFor kinds (λ _. 0) p a) at (at + headerLenFor a) octets) (level kinds inner p 0 0 (at + length (encodeAvp a)) l))) (drop-at (encodeAvp a) rest (length (encodeAvp a)) refl)
 
 module _ {P : Type 0} (kinds : P → ℕ → ℕ → Kind P) (rank : P → ℕ) (p : P) where
   -- AVPs that were written one after the other are listed one after the other
@@ -114,7 +114,7 @@ module _ {P : Type 0} (kinds : P → ℕ → ℕ → Kind P) (rank : P → ℕ) 
   trips (a ∷ rest) at typed fits small =
       let more-long = encodes-more a rest in
       trip kinds (listed kinds (rank p)) p a at (encodeAvps rest) (typed .0) (typed .1) (omega arith) (both-left (fitsAt kinds p a) (allFit kinds p rest) fits)
-      ∙ ap (λ l. more (entryFor kinds rank p at a) (valueOf (kindFor kinds rank p a) (a .octets .now)) (append (members (listed kinds (rank p)) (kindFor kinds rank p a) at (at + headerLen a) (a .octets .now)) l)) (trips rest (at + length (encodeAvp a)) (typed .2) (both-right (fitsAt kinds p a) (allFit kinds p rest) fits) (omega arith))
+      ∙ ap (λ l. more (entryFor kinds rank p at a) (valueOf (kindFor kinds rank p a) (a .octets .now)) (append (members (listed kinds (rank p)) (kindFor kinds rank p a) at (at + headerLenFor a) (a .octets .now)) l)) (trips rest (at + length (encodeAvp a)) (typed .2) (both-right (fitsAt kinds p a) (allFit kinds p rest) fits) (omega arith))
 
   -- a message that was written reads as what it was written from
   pub reads-as : (f : MessageFields) (avps : List Avp) → f .command < 2 ^ 24 → FieldsTyped f → messageLen avps < 2 ^ 24 → Typed avps → allFit kinds p avps ≡ true → ReadsAs kinds rank p f avps (encodeMessage f avps)

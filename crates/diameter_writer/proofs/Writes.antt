@@ -11,7 +11,7 @@ use Rattle.std.specs.Options.{isSome}
 use Rattle.std.specs.declared.option.Option.{Option}
 use Rattle.std.specs.declared.option.Option.the-variants.{Some, None}
 use Rattle.diameter_headers.specs.Framing.{padded}
-use Rattle.diameter_writer.specs.Encoding.{encodeAvp, flagsOf, headerLen, lengthFor, quad, triple, vendorPart}
+use Rattle.diameter_writer.specs.Encoding.{encodeAvp, flagsFor, headerLenFor, lengthFor, quad, triple, vendorPart}
 use Rattle.diameter_writer.specs.Writing.{Wrote}
 use Rattle.diameter_writer.specs.declared.avp.Avp.{Avp}
 
@@ -61,7 +61,7 @@ encode-length a =
 
 -- the first eight octets of an AVP
 abbrev pub front : Avp → List ℕ
-front a = quad (a .code) ++ (flagsOf a ∷ triple (lengthFor a))
+front a = quad (a .code) ++ (flagsFor a ∷ triple (lengthFor a))
 
 -- front, vendor, data and padding, each straight after the other, are the AVP
 pub wrote-avp : (a : Avp) (old : List ℕ) (at : ℕ) (xs m : List ℕ) (e1 : ℕ) (m2 : List ℕ) (e2 : ℕ) (m3 : List ℕ) (e3 : ℕ) (zs new : List ℕ) → xs ≡ front a → Wrote old at xs m → e1 ≡ at + length xs → Wrote m e1 (vendorPart (a .vendor)) m2 → e2 ≡ e1 + length (vendorPart (a .vendor)) → Wrote m2 e2 (a .octets .now) m3 → e3 ≡ e2 + length (a .octets .now) → zs ≡ replicate (padded (lengthFor a) - lengthFor a) 0 → Wrote m3 e3 zs new → Wrote old at (encodeAvp a) new

@@ -1,4 +1,4 @@
--- The octets of AVPs and of messages.
+-- The octets of AVPs.
 use mathlib.Core.Bool.{Bool, cond}
 use mathlib.Core.List.{List, [], _∷_, _++_}
 use Prim.Native.Nat.{ℕ, _+_, _-_, _/_, _%_}
@@ -18,31 +18,33 @@ abbrev pub quad : ℕ → List ℕ
 quad n = (n / 16777216 % 256) ∷ (n / 65536 % 256) ∷ (n / 256 % 256) ∷ (n % 256) ∷ []
 
 -- the flag V where there is a vendor, the flag M where the AVP is mandatory
-abbrev pub flagsOf : Avp → ℕ
-flagsOf a = cond (isSome (a .vendor)) 128 0 + cond (a .mandatory) 64 0
+abbrev pub flagsFor : Avp → ℕ
+flagsFor a = cond (isSome (a .vendor)) 128 0 + cond (a .mandatory) 64 0
 
 -- the vendor as a reader sees it
-abbrev pub vendorOf : Avp → ℕ
-vendorOf a = valueOr (a .vendor) 0
+abbrev pub vendorFor : Avp → ℕ
+vendorFor a = valueOr (a .vendor) 0
 
+-- four octets of vendor, or none
 abbrev pub vendorPart : Option ℕ → List ℕ
 vendorPart None = []
 vendorPart (Some vendor) = quad vendor
 
-abbrev pub headerLen : Avp → ℕ
-headerLen a = cond (isSome (a .vendor)) 12 8
+-- the octets before the data
+abbrev pub headerLenFor : Avp → ℕ
+headerLenFor a = cond (isSome (a .vendor)) 12 8
 
 -- header and data
 abbrev pub lengthFor : Avp → ℕ
-lengthFor a = headerLen a + length (a .octets .now)
+lengthFor a = headerLenFor a + length (a .octets .now)
 
 -- the data has the length of what the AVP is at the place p
 abbrev pub fitsAt : {P : Type 0} → (P → ℕ → ℕ → Kind P) → P → Avp → Bool
-fitsAt kinds p a = fitting (kinds p (a .code) (vendorOf a)) (length (a .octets .now))
+fitsAt kinds p a = fitting (kinds p (a .code) (vendorFor a)) (length (a .octets .now))
 
 -- code, flags, length, vendor if any, data, and zeros up to a multiple of 4
 unfoldable pub encodeAvp : Avp → List ℕ
-encodeAvp a = quad (a .code) ++ (flagsOf a ∷ triple (lengthFor a)) ++ (vendorPart (a .vendor) ++ (a .octets .now ++ replicate (padded (lengthFor a) - lengthFor a) 0))
+encodeAvp a = quad (a .code) ++ (flagsFor a ∷ triple (lengthFor a)) ++ (vendorPart (a .vendor) ++ (a .octets .now ++ replicate (padded (lengthFor a) - lengthFor a) 0))
 
 -- AVP after AVP
 unfoldable pub encodeAvps : List Avp → List ℕ

@@ -27,6 +27,6 @@ module _ {P : Type 0} (kinds : P → ℕ → ℕ → Kind P) (p : P) where
   allFit [] = true
   allFit (a ∷ rest) = cond (fitsAt kinds p a) (allFit rest) false
 
-  -- the message can be written: command and length have three octets in the header, the message fits the room, and a reader at p will find its AVPs well framed
+  -- the message can be written: command and length fit three octets, the message fits the room, and its numbers have four octets
   abbrev pub writable : MessageFields → List Avp → ℕ → Bool
   writable f avps room = cond (ltb (f .command) (2 ^ 24)) (cond (ltb (messageLen avps) (2 ^ 24)) (cond (leb (messageLen avps) room) (allFit avps) false) false) false

@@ -1,4 +1,4 @@
--- What a reader finds in a written message: the header's fields, and just the AVPs that it was written from.
+-- What a reader finds in a written message: the header's fields, and the AVPs that it was written from.
 use mathlib.Core.List.{List, [], _∷_}
 use mathlib.Core.Path.{_≡_}
 use Prim.Native.Nat.{ℕ, _+_}
@@ -10,7 +10,7 @@ use Rattle.diameter.specs.Values.{valueOf}
 use Rattle.diameter.specs.declared.entry.Entry.{Entry}
 use Rattle.diameter_headers.specs.declared.headers.MessageHeader.{MessageHeader}
 use Rattle.diameter_headers.specs.declared.place.Kind.{Kind}
-use Rattle.diameter_writer.specs.Encoding.{encodeAvp, flagsOf, headerLen, lengthFor, vendorOf}
+use Rattle.diameter_writer.specs.Encoding.{encodeAvp, flagsFor, headerLenFor, lengthFor, vendorFor}
 use Rattle.diameter_writer.specs.Messages.{encodeMessage}
 use Rattle.diameter_writer.specs.declared.avp.Avp.{Avp}
 use Rattle.diameter_writer.specs.declared.message.MessageFields.{MessageFields}
@@ -30,7 +30,7 @@ headerFor f n = record {
 module _ {P : Type 0} (kinds : P → ℕ → ℕ → Kind P) (rank : P → ℕ) (p : P) where
   -- what the AVP is at the place p
   abbrev pub kindFor : Avp → Kind P
-  kindFor a = kinds p (a .code) (vendorOf a)
+  kindFor a = kinds p (a .code) (vendorFor a)
 
   -- the AVP, written at an offset
   abbrev pub entryFor : ℕ → Avp → Entry P
@@ -39,17 +39,18 @@ module _ {P : Type 0} (kinds : P → ℕ → ℕ → Kind P) (rank : P → ℕ) 
     parent = 0;
     offset = at;
     code = a .code;
-    vendor = vendorOf a;
-    flags = flagsOf a;
+    vendor = vendorFor a;
+    flags = flagsFor a;
     kind = kindFor a;
-    start = at + headerLen a;
+    start = at + headerLenFor a;
     end = at + lengthFor a;
   }
 
-  -- the AVPs one after the other, each with its fields and its data; where one is a group, its members follow it
+  -- the AVPs one after the other, each with its fields and its data; where one is a group, the list of its data follows it,
+  -- and ends the whole where that data is not well framed
   unfoldable pub written : ℕ → List Avp → Listing P
   written at [] = done
-  written at (a ∷ rest) = more (entryFor at a) (valueOf (kindFor a) (a .octets .now)) (append (members (listed kinds (rank p)) (kindFor a) at (at + headerLen a) (a .octets .now)) (written (at + length (encodeAvp a)) rest))
+  written at (a ∷ rest) = more (entryFor at a) (valueOf (kindFor a) (a .octets .now)) (append (members (listed kinds (rank p)) (kindFor a) at (at + headerLenFor a) (a .octets .now)) (written (at + length (encodeAvp a)) rest))
 
   -- the message m reads as these fields and AVPs
   pub record ReadsAs (f : MessageFields) (avps : List Avp) (m : List ℕ) : Type 0 where

@@ -2,12 +2,11 @@ use crate::avp::Avp;
 use diameter_headers::HEADER_LEN;
 use diameter_headers::Place;
 use diameter_headers::padding;
-ghost use mathlib.Core.Path.{_≡_};
 ghost use Rattle.std.specs.Options.{Cases as BySome};
 ghost use Rattle.diameter_writer.specs.Measures.{Measured, Unmeasured};
 
-// Messages and AVPs are shorter than this, since their lengths have three octets.
-pub const LENGTH_LIMIT: usize = 0x100_0000;
+// What three octets cannot hold: a length, or a command.
+pub(crate) const THREE_OCTET_LIMIT: usize = 0x100_0000;
 
 // How long the message of these AVPs is, unless it is too long or an AVP's data has not the length of its kind at the place.
 pub(crate) fn measure<P: Place>(place: P, avps: &[Avp]) -> Option<usize>
@@ -19,12 +18,12 @@ pub(crate) fn measure<P: Place>(place: P, avps: &[Avp]) -> Option<usize>
         if !avp.fits_at(place) {
             return None;
         }
-        if octets >= LENGTH_LIMIT {
+        if octets >= THREE_OCTET_LIMIT {
             return None;
         }
         let length = avp.header_len() + octets;
         total += length + padding(length);
-        if total >= LENGTH_LIMIT {
+        if total >= THREE_OCTET_LIMIT {
             return None;
         }
     }

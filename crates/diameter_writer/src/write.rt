@@ -1,5 +1,5 @@
 use crate::avp::Avp;
-use crate::measure::LENGTH_LIMIT;
+use crate::measure::THREE_OCTET_LIMIT;
 use crate::measure::measure;
 use crate::message::MessageFields;
 use crate::put::put;
@@ -74,7 +74,8 @@ fn put_avps(out: &mut [u8], at: usize, avps: &[Avp])
 }
 
 // Writes a message for a reader at a place, and answers how many octets it has; the output beyond them stays.
-// Where the message cannot be written, because it has no room or a reader at the place would find it ill framed, nothing is.
+// Nothing is written where command or length do not fit three octets, the message does not fit the output, or a number
+// has not four octets.
 pub fn write_message<P: Place>(
     place: P,
     fields: MessageFields,
@@ -86,7 +87,7 @@ pub fn write_message<P: Place>(
     ensures reads { λ r. ⌜ (isSome r ≡ true → ReadsAs (P·Place .kinds) (P·Place .rank) place fields (now (avps .entry)) (encodeMessage fields (now (avps .entry)))) ⌝ }
 {
     let total = measure(place, avps)?;
-    if fields.command >= LENGTH_LIMIT as u32 || total > out.len() {
+    if fields.command >= THREE_OCTET_LIMIT as u32 || total > out.len() {
         return None;
     }
     put_header(out, fields, total);

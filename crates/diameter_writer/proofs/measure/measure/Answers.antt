@@ -10,17 +10,17 @@ use Rattle.diameter_writer.proofs.measure.measure.Needs as need
 pub returns-then-not-fits-at : need.returns-then-not-fits-at
 returns-then-not-fits-at g c = no-fit _ _ _ _ _ (c .loop-avp .inv) (c .loop-avp-test .taken) (sym (c .fits-at .ensures .value) ∙ c .if-not-fits-at .taken)
 
-pub returns-then-octets-ge-LENGTH-LIMIT : need.returns-then-octets-ge-LENGTH-LIMIT
-returns-then-octets-ge-LENGTH-LIMIT g c =
+pub returns-then-octets-ge-THREE-OCTET-LIMIT : need.returns-then-octets-ge-THREE-OCTET-LIMIT
+returns-then-octets-ge-THREE-OCTET-LIMIT g c =
     let long : 2 ^ 24 ≤ c .loop-avp .total + padded (lengthFor (item (c .args .avps .now) (c .loop-avp .avp-index))) = omega arith in
     too-long _ _ _ _ _ (c .loop-avp .inv) (c .loop-avp-test .taken) long
 
-pub returns-then-total-ge-LENGTH-LIMIT : need.returns-then-total-ge-LENGTH-LIMIT
-returns-then-total-ge-LENGTH-LIMIT g c =
+pub returns-then-total-ge-THREE-OCTET-LIMIT : need.returns-then-total-ge-THREE-OCTET-LIMIT
+returns-then-total-ge-THREE-OCTET-LIMIT g c =
     let a = item (c .args .avps .now) (c .loop-avp .avp-index) in
     let len : c .header-len .result + length (a .octets .now) ≡ lengthFor a = ap (λ k. k + length (a .octets .now)) (c .header-len .ensures) in
     let gap : c .padding .result ≡ padded (lengthFor a) - lengthFor a = c .padding .ensures ∙ ap (λ k. padded k - k) len in
-    let long : 2 ^ 24 ≤ c .loop-avp .total + padded (lengthFor a) = omega (arith, c .if-total-ge-LENGTH-LIMIT .taken) in
+    let long : 2 ^ 24 ≤ c .loop-avp .total + padded (lengthFor a) = omega (arith, c .if-total-ge-THREE-OCTET-LIMIT .taken) in
     too-long _ _ _ _ _ (c .loop-avp .inv) (c .loop-avp-test .taken) long
 
 pub loop-avp-again : need.loop-avp-again
@@ -29,7 +29,7 @@ loop-avp-again g c =
     let len : c .header-len .result + length (a .octets .now) ≡ lengthFor a = ap (λ k. k + length (a .octets .now)) (c .header-len .ensures) in
     let gap : c .padding .result ≡ padded (lengthFor a) - lengthFor a = c .padding .ensures ∙ ap (λ k. padded k - k) len in
     let next : c .loop-avp .total + (c .header-len .result + length (a .octets .now) + c .padding .result) ≡ c .loop-avp .total + padded (lengthFor a) = omega arith in
-    counted-more _ _ _ _ _ (c .loop-avp .inv) (c .loop-avp-test .taken) (sym (c .fits-at .ensures .value) ∙ c .if-not-fits-at .left) (c .fits-at .ensures .typed .0) (c .fits-at .ensures .typed .1) _ next (c .if-total-ge-LENGTH-LIMIT .left)
+    counted-more _ _ _ _ _ (c .loop-avp .inv) (c .loop-avp-test .taken) (sym (c .fits-at .ensures .value) ∙ c .if-not-fits-at .left) (c .fits-at .ensures .typed .0) (c .fits-at .ensures .typed .1) _ next (c .if-total-ge-THREE-OCTET-LIMIT .left)
 
 pub returns : need.returns
 returns g c =

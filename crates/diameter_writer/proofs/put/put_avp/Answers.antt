@@ -5,7 +5,7 @@ use native.Mathlib.Omega.{arith}
 use lib.ListN.{length, getD}
 use Rattle.std.proofs.shelf.Lists.{length-replicate}
 use Rattle.diameter_headers.specs.Framing.{padded}
-use Rattle.diameter_writer.specs.Encoding.{quad, lengthFor, flagsOf}
+use Rattle.diameter_writer.specs.Encoding.{quad, lengthFor, flagsFor}
 use Rattle.diameter_writer.proofs.Writes.{front, wrote-avp, wrote-length, encode-length, vendor-length, zeros-are}
 use Rattle.diameter_writer.proofs.put.put_avp.Needs as need
 
@@ -36,6 +36,6 @@ returns c =
       wrote =
           wrote-avp a _ _ _ _ _ _ _ _ _ _ _
           ((λ i. getD (c .to-be-bytes .ensures i) 0 0 ∷ getD (c .to-be-bytes .ensures i) 1 0 ∷ getD (c .to-be-bytes .ensures i) 2 0 ∷ getD (c .to-be-bytes .ensures i) 3 0 ∷ flags i ∷ getD (c .to-be-bytes-2 .ensures i) 1 0 ∷ getD (c .to-be-bytes-2 .ensures i) 2 0 ∷ getD (c .to-be-bytes-2 .ensures i) 3 0 ∷ [])
-          ∙ (λ i. getD (quad (a .code)) 0 0 ∷ getD (quad (a .code)) 1 0 ∷ getD (quad (a .code)) 2 0 ∷ getD (quad (a .code)) 3 0 ∷ flagsOf a ∷ getD (quad (len i)) 1 0 ∷ getD (quad (len i)) 2 0 ∷ getD (quad (len i)) 3 0 ∷ []))
+          ∙ (λ i. getD (quad (a .code)) 0 0 ∷ getD (quad (a .code)) 1 0 ∷ getD (quad (a .code)) 2 0 ∷ getD (quad (a .code)) 3 0 ∷ flagsFor a ∷ getD (quad (len i)) 1 0 ∷ getD (quad (len i)) 2 0 ∷ getD (quad (len i)) 3 0 ∷ []))
           (c .put-end .ensures .wrote) (c .put-end .ensures .end) (c .put-vendor-end .ensures .wrote) (c .put-vendor-end .ensures .end) (c .put-end-2 .ensures .wrote) (c .put-end-2 .ensures .end) z (c .put .ensures .wrote);
     }
