@@ -1,12 +1,14 @@
 -- The offsets of a list rise.
 use mathlib.Core.Bool.{Bool, true, false, cond}
 use mathlib.Core.List.{List, [], _∷_}
+use mathlib.Core.Logic.{⊎-elim}
 use mathlib.Core.Path.{_≡_, refl, sym, ap, subst, _∙_}
 use Prim.Native.Nat.{ℕ, zero, suc, _+_, _-_, _≤_, _<_}
 use native.Mathlib.Omega.{arith}
 use borrow.Author.Tests.{leb-true}
 use lib.Dec.{leb}
 use lib.ListN.{length, drop}
+use Rattle.std.proofs.shelf.Tests.{cases-lt}
 use Rattle.std.proofs.shelf.Lists.{length-drop, length-take-le}
 use Rattle.diameter_headers.specs.Framing.{Framed, framed, padded, fitting, dataOf}
 use Rattle.diameter_headers.specs.Headers.{lengthOf, headerLen}
@@ -15,7 +17,7 @@ use Rattle.diameter_checks.specs.Order.{Rising}
 use Rattle.diameter.specs.Values.{valueOf}
 use Rattle.diameter_headers.specs.declared.place.Kind.{Kind}
 use Rattle.diameter_headers.specs.declared.place.Kind.the-variants.{Unknown, Number, Octets, Group}
-use Rattle.diameter.proofs.Levels.{framed-is, header-least}
+use Rattle.diameter.proofs.Levels.{framed-is, header-least, level-done}
 
 rising-wider : {P : Type 0} (lo hi from to : ℕ) (l : Listing P) → from ≤ lo → hi ≤ to → Rising lo hi l → Rising from to l
 unfolding Rising
@@ -68,6 +70,11 @@ unfolding Rising listed
 listed-rises kinds zero p parent at xs = tt
 listed-rises kinds (suc depth) p parent at xs = rising-wider (at + 0) (at + length xs) at (at + length xs) (level kinds (listed kinds depth) p parent 0 at xs) (omega arith) (omega arith) (level-rises kinds (listed kinds depth) (listed-rises kinds depth) p parent 0 at xs)
 
-pub listing-rises : {P : Type 0} (kinds : P → ℕ → ℕ → Kind P) (rank : P → ℕ) (p : P) (m : List ℕ) → Rising 20 (20 + length (drop 20 m)) (listing kinds rank p m)
-unfolding listing
-listing-rises kinds rank p m = listed-rises kinds (suc (rank p)) p 0 20 (drop 20 m)
+pub listing-rises : {P : Type 0} (kinds : P → ℕ → ℕ → Kind P) (rank : P → ℕ) (p : P) (m : List ℕ) → Rising 20 (length m) (listing kinds rank p m)
+unfolding listing listed Rising
+listing-rises kinds rank p m =
+    let rises = listed-rises kinds (suc (rank p)) p 0 20 (drop 20 m) in
+    ⊎-elim
+    (λ short. subst (Rising 20 (length m)) (sym (level-done kinds (listed kinds (rank p)) p 0 20 (drop 20 m) (length-drop 20 m ∙ omega arith))) tt)
+    (λ long. subst (λ n. Rising 20 n (level kinds (listed kinds (rank p)) p 0 0 20 (drop 20 m))) (ap (λ n. 20 + n) (length-drop 20 m) ∙ omega arith) rises)
+    (cases-lt (length m) 20)

@@ -6,16 +6,12 @@ use diameter::visit_message;
 use diameter_headers::Place;
 use refusals::Fault;
 use refusals::Refusal;
-ghost use mathlib.Core.Bool.{cond};
 ghost use mathlib.Core.Path.{_≡_};
-ghost use Prim.Native.Nat.{_+_};
-ghost use lib.ListN.{length, drop};
-ghost use Rattle.std.specs.Options.{isSome};
-ghost use Rattle.std.specs.declared.option.Option.the-variants.{Some};
+ghost use lib.ListN.{length};
 ghost use Rattle.std.specs.declared.result.Result.the-variants.{Ok};
 ghost use Rattle.diameter.specs.Listing.{listing};
 ghost use Rattle.diameter_checks.specs.Order.{Rising};
-ghost use Rattle.diameter_checks.specs.Questions.{framing, first, named};
+ghost use Rattle.diameter_checks.specs.Questions.{framing, first, noted};
 
 // Asks nothing but what the walk itself asks.
 #[derive(Clone, Copy)]
@@ -29,10 +25,11 @@ impl<P: Place> Visitor<P> for Frames as FramesVisitor {
     }
 }
 
-// Whether every AVP of a message is well framed, groups included; else the first that is not, which is the one with the smallest offset.
+// Whether every AVP of a message is well framed, groups included; else the first that is not. The offsets of the list rise,
+// so all that lies before the fault was well framed.
 pub fn check_framing<P: Place>(message: &[u8], place: P) -> Result<(), Fault>
     ensures value { λ r. ⌜ r ≡ framing (listing (P·Place .kinds) (P·Place .rank) place (now (message .entry))) ⌝ }
-    ensures ordered { λ _. ⌜ Rising 20 (20 + length (drop 20 (now (message .entry)))) (listing (P·Place .kinds) (P·Place .rank) place (now (message .entry))) ⌝ }
+    ensures ordered { λ _. ⌜ Rising 20 (length (now (message .entry))) (listing (P·Place .kinds) (P·Place .rank) place (now (message .entry))) ⌝ }
 {
     visit_message(message, place, &mut Frames)
 }
@@ -46,7 +43,7 @@ struct First<P> {
 }
 
 impl<P: Place> Visitor<P> for First<P> as FirstVisitor {
-    ghost shows = { λ u e _ a w. (a ≡ Ok tt) × (w ≡ record { code = u .code; vendor = u .vendor; found = cond (isSome (u .found)) (u .found) (cond (named (u .code) (u .vendor) e) (Some e) (u .found)) }) };
+    ghost shows = { λ u e _ a w. (a ≡ Ok tt) × (w ≡ noted u e) };
 
     fn show(&mut self, entry: &Entry<P>, _item: Item<'_>) -> Result<(), Refusal> {
         if self.found.is_none() && entry.code == self.code && entry.vendor == self.vendor {
@@ -56,7 +53,7 @@ impl<P: Place> Visitor<P> for First<P> as FirstVisitor {
     }
 }
 
-// The first AVP with this code and vendor, in the message or in a group of it.
+// The first AVP with this code and vendor, in the message or in a group of it; none also where a fault comes first.
 pub fn find<P: Place>(message: &[u8], place: P, code: u32, vendor: u32) -> Option<Entry<P>>
     ensures { λ r. ⌜ r ≡ first code vendor (listing (P·Place .kinds) (P·Place .rank) place (now (message .entry))) ⌝ }
 {
