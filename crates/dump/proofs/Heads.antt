@@ -13,7 +13,7 @@ use Rattle.std.specs.declared.result.Result.{Result}
 use Rattle.std.specs.declared.result.Result.the-variants.{Ok, Err}
 use Rattle.diameter_headers.specs.Headers.{headerIn, headerRead}
 use Rattle.diameter_headers.specs.declared.headers.MessageHeader.{MessageHeader}
-use Rattle.dump.specs.Dump.{avpsText, dumpText, headerText, line, shortText}
+use Rattle.dump.specs.Dump.{avpsText, dumpText, headerText, shortLine}
 
 pub made-as : {X Y : Type 0} (r : Result X Y) (f : X → List ℕ) (a b : List ℕ) → a ≡ b → made r (λ v. f v ≡ a) → made r (λ v. f v ≡ b)
 made-as (Ok x) f a b same is = is ∙ same
@@ -32,9 +32,9 @@ pub headed : (m : List ℕ) (h : MessageHeader) → Some h ≡ headerRead m → 
 unfolding dumpText
 headed m h is =
     let t = some-cond (leb 20 (length m)) h (headerIn m) is in
-    ap (λ x. headerText x (length m) ++ avpsText m) (t .1) ∙ sym (ap (λ b. cond b (headerText (headerIn m) (length m) ++ avpsText m) (line (shortText (length m)))) (t .0))
+    ap (λ x. headerText x (length m) ++ avpsText m) (t .1) ∙ sym (ap (λ b. cond b (headerText (headerIn m) (length m) ++ avpsText m) (shortLine (length m))) (t .0))
 
 -- where there is none, that is all
-pub headless : (m : List ℕ) → None ≡ headerRead m → line (shortText (length m)) ≡ dumpText m
+pub headless : (m : List ℕ) → None ≡ headerRead m → shortLine (length m) ≡ dumpText m
 unfolding dumpText
-headless m is = sym (ap (λ b. cond b (headerText (headerIn m) (length m) ++ avpsText m) (line (shortText (length m)))) (none-cond (leb 20 (length m)) (headerIn m) is))
+headless m is = sym (ap (λ b. cond b (headerText (headerIn m) (length m) ++ avpsText m) (shortLine (length m))) (none-cond (leb 20 (length m)) (headerIn m) is))

@@ -10,6 +10,7 @@ use Rattle.std.specs.declared.result.Result.{Result}
 use Rattle.std.specs.declared.result.Result.the-variants.{Ok, Err}
 use Rattle.refusals.specs.Meanings.{meaning}
 use Rattle.refusals.specs.declared.fault.Fault.{Fault}
+use Rattle.refusals.specs.declared.refusal.Refusal.the-variants.{MessageLength}
 use Rattle.diameter_headers.specs.Headers.{headerIn}
 use Rattle.diameter.specs.Listing.{Listing, done, fault, more, listing}
 use Rattle.diameter_checks.specs.Questions.{framing}
@@ -20,13 +21,15 @@ use Rattle.dump.specs.Lines.{lineOf}
 use Rattle.gx_dictionary.specs.declared.dictionary.Part.{Part}
 use Rattle.gx_dictionary.specs.declared.dictionary.Part.the-variants.{Message}
 
--- what a header says of its message, with the octets that the message really has; the flags in hexadecimal
+-- what a header says of its message, with the octets that the message really has
 abbrev pub frameText : ℕ → ℕ → ℕ → ℕ → List ℕ
 frameText version long octets command = codes "version " ++ (decimal version ++ (codes " length " ++ (decimal long ++ (codes " of " ++ (decimal octets ++ (codes " command " ++ (decimal command ++ codes " flags 0x")))))))
 
+-- and the flags in hexadecimal
 abbrev pub frameLine : ℕ → ℕ → ℕ → ℕ → ℕ → List ℕ
 frameLine version long octets command flags = frameText version long octets command ++ (hexText (flags ∷ []) ++ (10 ∷ []))
 
+-- the application and the identifiers
 abbrev pub identifiersText : ℕ → ℕ → ℕ → List ℕ
 identifiersText application hop end = codes "application " ++ (decimal application ++ (codes " hop-by-hop " ++ (decimal hop ++ (codes " end-to-end " ++ decimal end))))
 
@@ -34,16 +37,20 @@ identifiersText application hop end = codes "application " ++ (decimal applicati
 abbrev pub line : List ℕ → List ℕ
 line text = text ++ (10 ∷ [])
 
--- a message that has no whole header
-abbrev pub shortText : ℕ → List ℕ
-shortText octets = codes "fault at 0: the message has " ++ (decimal octets ++ codes " octets, a header has 20 (refusal 7, Diameter code 5015)")
+-- a message that has no whole header, with the number and the code of the refusal
+abbrev pub shortText : ℕ → ℕ → ℕ → List ℕ
+shortText octets number code = codes "fault at 0: the message has " ++ (decimal octets ++ (codes " octets, a header has 20 (refusal " ++ (decimal number ++ (codes ", Diameter code " ++ (decimal code ++ codes ")")))))
+
+abbrev pub shortLine : ℕ → List ℕ
+shortLine octets = line (shortText octets (meaning MessageLength .number) (meaning MessageLength .code))
 
 -- a header that says another length
-abbrev pub lengthText : ℕ → ℕ → List ℕ
-lengthText long octets = codes "fault at 0: the header says " ++ (decimal long ++ (codes " octets, the message has " ++ (decimal octets ++ codes " (refusal 7, Diameter code 5015)")))
+abbrev pub lengthText : ℕ → ℕ → ℕ → ℕ → List ℕ
+lengthText long octets number code = codes "fault at 0: the header says " ++ (decimal long ++ (codes " octets, the message has " ++ (decimal octets ++ (codes " (refusal " ++ (decimal number ++ (codes ", Diameter code " ++ (decimal code ++ codes ")")))))))
 
+-- nothing where the lengths agree
 abbrev pub lengthLine : ℕ → ℕ → List ℕ
-lengthLine long octets = cond (eqb long octets) [] (line (lengthText long octets))
+lengthLine long octets = cond (eqb long octets) [] (line (lengthText long octets (meaning MessageLength .number) (meaning MessageLength .code)))
 
 -- the lines of a header
 unfoldable pub headerText : MessageHeader → ℕ → List ℕ
@@ -68,5 +75,6 @@ endText (Err f) = line (faultText (f .offset) (meaning (f .refusal) .number) (me
 abbrev pub avpsText : List ℕ → List ℕ
 avpsText m = lines (listing kindsOf rankOf Message m) ++ endText (framing (listing kindsOf rankOf Message m))
 
+-- the whole text: header and AVPs, or that there is no header
 unfoldable pub dumpText : List ℕ → List ℕ
-dumpText m = cond (leb 20 (length m)) (headerText (headerIn m) (length m) ++ avpsText m) (line (shortText (length m)))
+dumpText m = cond (leb 20 (length m)) (headerText (headerIn m) (length m) ++ avpsText m) (shortLine (length m))

@@ -23,6 +23,7 @@ indentOf Definition = codes "    "
 abbrev pub printable : ℕ → Bool
 printable c = cond (eqb c 34) false (cond (eqb c 92) false (within 32 126 c))
 
+-- all of them are
 unfoldable pub allPrintable : List ℕ → Bool
 allPrintable [] = true
 allPrintable (c ∷ cs) = cond (printable c) (allPrintable cs) false
@@ -45,5 +46,6 @@ fieldsOf e = decimal (e .offset) ++ (codes ": code " ++ (decimal (e .code) ++ (c
 unfoldable pub headOf : Entry Part → List ℕ
 headOf e = indentOf (e .place) ++ (fieldsOf e ++ hexText (e .flags ∷ []))
 
+-- fields and data
 unfoldable pub lineOf : Entry Part → Value → List ℕ
 lineOf e v = headOf e ++ (codes " " ++ (valueText v ++ (10 ∷ [])))

@@ -18,7 +18,7 @@ ghost use Rattle.std.specs.Of.Vec.{vec-items};
 ghost use Rattle.std.specs.Results.{Cases};
 ghost use Rattle.std.specs.Vec.{made};
 ghost use Rattle.refusals.specs.declared.refusal.Refusal.the-variants.{NoSpace};
-ghost use Rattle.dump.specs.Dump.{avpsText, dumpText, endText, faultText, frameLine, frameText, headerText, identifiersText, lengthLine, lengthText, shortText};
+ghost use Rattle.dump.specs.Dump.{avpsText, dumpText, endText, faultText, frameLine, frameText, headerText, identifiersText, lengthLine, lengthText, shortLine, shortText};
 ghost use Rattle.dump.specs.Lines.{lineOf};
 use std::alloc::AllocError;
 use std::alloc::Global;
@@ -68,22 +68,28 @@ fn identifiers_line(heap: Global, header: MessageHeader) -> Result<String, Alloc
 }
 
 // The line of a message that has no whole header.
-fn short_line(heap: Global, octets: usize) -> Result<String, AllocError>
-    ensures { λ r. ⌜ made r (λ s. string-bytes s ≡ shortText octets) ⌝ }
+fn short_line(heap: Global, octets: usize, number: u8, code: u16) -> Result<String, AllocError>
+    ensures { λ r. ⌜ made r (λ s. string-bytes s ≡ shortText octets number code) ⌝ }
 {
     format!(
         heap,
-        "fault at 0: the message has {octets} octets, a header has 20 (refusal 7, Diameter code 5015)"
+        "fault at 0: the message has {octets} octets, a header has 20 (refusal {number}, Diameter code {code})"
     )
 }
 
 // The line of a header that says another length than the message has.
-fn length_line(heap: Global, length: u32, octets: usize) -> Result<String, AllocError>
-    ensures { λ r. ⌜ made r (λ s. string-bytes s ≡ lengthText length octets) ⌝ }
+fn length_line(
+    heap: Global,
+    length: u32,
+    octets: usize,
+    number: u8,
+    code: u16,
+) -> Result<String, AllocError>
+    ensures { λ r. ⌜ made r (λ s. string-bytes s ≡ lengthText length octets number code) ⌝ }
 {
     format!(
         heap,
-        "fault at 0: the header says {length} octets, the message has {octets} (refusal 7, Diameter code 5015)"
+        "fault at 0: the header says {length} octets, the message has {octets} (refusal {number}, Diameter code {code})"
     )
 }
 
@@ -112,6 +118,16 @@ fn push_frame(
     Ok(())
 }
 
+// Adds the line of a message that has no whole header to a text.
+fn push_short(heap: Global, text: &mut Vec<u8>, octets: usize) -> Result<(), AllocError>
+    ensures { λ r. ⌜ made r (λ _. vec-items (now (text .exit)) ≡ vec-items (now (text .entry)) ++ shortLine octets) ⌝ }
+{
+    let number = Refusal::MessageLength.number();
+    let code = Refusal::MessageLength.code();
+    push_text(text, &short_line(heap, octets, number, code)?)?;
+    Ok(())
+}
+
 // Adds a line to a text where a header says another length than the message has.
 fn push_length(
     heap: Global,
@@ -122,7 +138,9 @@ fn push_length(
     ensures { λ r. ⌜ made r (λ _. vec-items (now (text .exit)) ≡ vec-items (now (text .entry)) ++ lengthLine length octets) ⌝ }
 {
     if length as usize != octets {
-        push_text(text, &length_line(heap, length, octets)?)?;
+        let number = Refusal::MessageLength.number();
+        let code = Refusal::MessageLength.code();
+        push_text(text, &length_line(heap, length, octets, number, code)?)?;
     }
     Ok(())
 }
@@ -190,7 +208,7 @@ pub fn message_text(heap: Global, message: &[u8]) -> Result<Vec<u8>, AllocError>
 {
     let mut text = Vec::new(heap);
     let Some(header) = MessageHeader::read(message) else {
-        push_text(&mut text, &short_line(heap, message.len())?)?;
+        push_short(heap, &mut text, message.len())?;
         return Ok(text);
     };
     push_header(heap, &mut text, header, message.len())?;

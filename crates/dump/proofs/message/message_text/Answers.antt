@@ -2,15 +2,16 @@ use mathlib.Core.List.{_++_}
 use mathlib.Core.Path.{_≡_, ap, _∙_}
 use lib.ListN.{length}
 use Rattle.std.specs.Of.Vec.{vec-items}
-use Rattle.dump.specs.Dump.{avpsText, headerText, line}
+use Rattle.dump.specs.Dump.{avpsText, headerText, shortLine}
 use Rattle.dump.proofs.Heads.{made-as, headed, headless}
 use Rattle.dump.proofs.message.message_text.Needs as need
 
 pub returns-in-rest : need.returns-in-rest
 returns-in-rest c =
-    c .in-Continue-push-text .ensures tt
-    ∙ (λ i. c .new-text .ensures .items i ++ line (c .in-Continue-short-line .ensures tt i))
-    ∙ headless (c .args .message .now) (c .in-rest .ensures tt)
+    let m = c .args .message .now in
+    c .in-Continue-push-short .ensures tt
+    ∙ ap (λ t. t ++ shortLine (length m)) (c .new-text .ensures .items)
+    ∙ headless m (c .in-rest .ensures tt)
 
 pub returns : need.returns
 returns c =
