@@ -3,12 +3,13 @@ use dump::message_text;
 use hex_text::HexError;
 use hex_text::read_hex;
 use std::error::AnyError;
+use std::io;
 use std::io::Read;
 use std::io::Write;
 
-// What is wrong with the input, in words.
-fn complain(rt: &LibcRuntime, error: HexError) -> AnyError {
-    let told = match error {
+// Says on standard error what is wrong with the input.
+fn complain(rt: &LibcRuntime, error: HexError) -> io::Result<()> {
+    match error {
         HexError::NotADigit(at) => {
             eprintln!(
                 rt,
@@ -17,9 +18,7 @@ fn complain(rt: &LibcRuntime, error: HexError) -> AnyError {
         }
         HexError::HalfOctet => eprintln!(rt, "avpdump: the last octet has only one digit"),
         HexError::NoMemory => eprintln!(rt, "avpdump: not enough memory"),
-    };
-    let _ = told;
-    "the input is no message in hexadecimal".into()
+    }
 }
 
 fn main(rt: LibcRuntime) -> Result<(), AnyError> {
@@ -27,7 +26,10 @@ fn main(rt: LibcRuntime) -> Result<(), AnyError> {
     rt.stdin().read_to_end(&mut input)?;
     let octets = match read_hex(rt.alloc(), input.as_slice()) {
         Ok(octets) => octets,
-        Err(error) => return Err(complain(&rt, error)),
+        Err(error) => {
+            complain(&rt, error)?;
+            return Err("the input is no message in hexadecimal".into());
+        }
     };
     let text = message_text(rt.alloc(), octets.as_slice())?;
     rt.stdout().write_all(text.as_slice())?;

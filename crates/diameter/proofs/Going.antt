@@ -7,7 +7,7 @@ use Rattle.std.specs.declared.result.Result.the-variants.{Ok, Err}
 use Rattle.refusals.specs.Faults.{faultAt}
 use Rattle.refusals.specs.declared.fault.Fault.{Fault}
 use Rattle.refusals.specs.declared.refusal.Refusal.{Refusal}
-use Rattle.diameter.specs.Listing.{Listing, more, append, members, listed}
+use Rattle.diameter.specs.Listing.{more, append, members, listed}
 use Rattle.diameter.specs.Reading.{Within, Told, Ended, Malformed, window, ahead}
 use Rattle.diameter.specs.Values.{Value, held}
 use Rattle.diameter.specs.Visiting.{Shown}

@@ -12,11 +12,11 @@ use Rattle.std.specs.declared.option.Option.the-variants.{Some, None}
 use Rattle.std.specs.declared.result.Result.{Result}
 use Rattle.std.specs.declared.result.Result.the-variants.{Ok, Err}
 use Rattle.refusals.specs.declared.fault.Fault.{Fault}
-use Rattle.diameter_headers.specs.Framing.{Framed, padded, dataOf}
+use Rattle.diameter_headers.specs.Framing.{padded, dataOf}
 use Rattle.diameter_headers.specs.Headers.{lengthOf, headerLen}
-use Rattle.diameter.specs.Listing.{Listing, done, fault, more, append, members, kindIn, entryAt, level, listed, listing}
+use Rattle.diameter.specs.Listing.{Listing, done, fault, more, append, members, entryAt, level, listed, listing}
 use Rattle.diameter.specs.Reading.{Within, Told, Ended, Malformed, Read, window, left, ahead, opening}
-use Rattle.diameter.specs.Values.{held, valueOf}
+use Rattle.diameter.specs.Values.{held}
 use Rattle.diameter.specs.declared.cursor.Cursor.{Cursor}
 use Rattle.diameter.specs.declared.entry.Entry.{Entry}
 use Rattle.diameter.specs.declared.entry.Item.{Item}

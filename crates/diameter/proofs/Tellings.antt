@@ -1,18 +1,16 @@
 -- What was read from a part of the message is told of the cursor's octets.
 use mathlib.Core.List.{List}
-use mathlib.Core.Path.{_≡_, refl, sym, ap, subst, _∙_}
-use Prim.Native.Nat.{ℕ, _+_, _-_, _<_}
+use mathlib.Core.Path.{_≡_, ap, subst, _∙_}
+use Prim.Native.Nat.{ℕ, _+_, _-_}
 use native.Mathlib.Omega.{arith}
 use lib.ListN.{take, drop}
 use Rattle.std.specs.Holes.{between}
 use Rattle.std.proofs.shelf.Parts.{between-is}
 use Rattle.diameter_headers.specs.Framing.{Framed, padded, dataOf}
-use Rattle.diameter_headers.specs.Headers.{AvpHeaderOf, lengthOf, headerLen}
+use Rattle.diameter_headers.specs.Headers.{AvpHeaderOf, lengthOf}
 use Rattle.diameter.specs.Listing.{kindIn, entryAt}
 use Rattle.diameter.specs.Reading.{Told, window}
 use Rattle.diameter.specs.Values.{held, valueOf}
-use Rattle.diameter.specs.declared.cursor.Cursor.{Cursor}
-use Rattle.diameter.specs.declared.entry.Entry.{Entry}
 use Rattle.diameter.specs.declared.entry.Item.{Item}
 use Rattle.diameter_headers.specs.declared.headers.AvpHeader.{AvpHeader}
 use Rattle.diameter_headers.specs.declared.place.Kind.{Kind}

@@ -48,7 +48,8 @@ module _ {P : Type 0} (kinds : P → ℕ → ℕ → Kind P) where
     end = at + lengthOf xs;
   }
 
-  -- the list of xs, whose first octet has the offset at, once skip octets are passed over; `inner` lists the members of a group
+  -- the list of xs, whose first octet has the offset at; the next skip octets still belong to the AVP just listed and are passed
+  -- over; `inner` lists the members of a group
   unfoldable pub level : (P → ℕ → ℕ → List ℕ → Listing P) → P → ℕ → ℕ → ℕ → List ℕ → Listing P
   level inner p parent skip at [] = done
   level inner p parent zero at (x ∷ xs) =
@@ -58,7 +59,7 @@ module _ {P : Type 0} (kinds : P → ℕ → ℕ → Kind P) where
       (fault at)
   level inner p parent (suc skip) at (x ∷ xs) = level inner p parent skip (at + 1) xs
 
-  -- the list of xs at the place p, with groups down to a depth
+  -- the list of xs at the place p, with groups down to a depth (a rank of places never lets it run out: each group ranks one lower)
   unfoldable pub listed : ℕ → P → ℕ → ℕ → List ℕ → Listing P
   listed zero p parent at xs = done
   listed (suc depth) p parent at xs = level (listed depth) p parent 0 at xs

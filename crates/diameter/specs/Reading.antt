@@ -66,6 +66,7 @@ module _ {P : Type 0} (kinds : P → ℕ → ℕ → Kind P) (p : P) (parent : �
     pub fault : f ≡ faultAt AvpLength (c .position)
     pub same : d ≡ c
 
+  -- what a reading answers
   abbrev pub Read : Result (Option (Entry P × Item)) Fault → Type 0
   Read (Ok None) = Ended
   Read (Ok (Some x)) = Told (x .0) (x .1)

@@ -3,14 +3,12 @@ use mathlib.Core.Bool.{Bool, true, false, cond}
 use mathlib.Core.List.{List, [], _∷_}
 use mathlib.Core.Logic.{⊎-elim}
 use mathlib.Core.Path.{_≡_, refl, sym, ap, subst, _∙_}
-use Prim.Native.Nat.{ℕ, zero, suc, _+_, _-_, _≤_, _<_}
+use Prim.Native.Nat.{ℕ, zero, suc, _+_, _-_, _≤_}
 use native.Mathlib.Omega.{arith}
-use borrow.Author.Tests.{leb-true}
-use lib.Dec.{leb}
 use lib.ListN.{length, drop}
 use Rattle.std.proofs.shelf.Tests.{cases-lt}
 use Rattle.std.proofs.shelf.Lists.{length-drop, length-take-le}
-use Rattle.diameter_headers.specs.Framing.{Framed, framed, padded, fitting, dataOf}
+use Rattle.diameter_headers.specs.Framing.{framed, padded, dataOf}
 use Rattle.diameter_headers.specs.Headers.{lengthOf, headerLen}
 use Rattle.diameter.specs.Listing.{Listing, done, fault, more, append, members, kindIn, entryAt, level, listed, listing}
 use Rattle.diameter_checks.specs.Order.{Rising}

@@ -14,6 +14,7 @@ pub const HEADER_LEN: usize = 20;
 
 // The octets of an AVP's header, without a vendor and with one.
 pub const PLAIN_HEADER_LEN: usize = 8;
+
 pub const VENDOR_HEADER_LEN: usize = 12;
 
 // The AVP flag V: a vendor follows the length.

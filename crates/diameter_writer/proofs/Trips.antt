@@ -1,8 +1,8 @@
 -- What is written is read again.
 use mathlib.Core.Bool.{Bool, true, false, cond, not}
 use mathlib.Core.List.{List, [], _∷_, _++_, append-assoc}
-use mathlib.Core.Path.{_≡_, refl, sym, ap, subst, _∙_}
-use Prim.Native.Nat.{ℕ, suc, _+_, _-_, _*_, _/_, _%_, _≤_, _<_, _^_}
+use mathlib.Core.Path.{_≡_, refl, sym, ap, _∙_}
+use Prim.Native.Nat.{ℕ, _+_, _-_, _*_, _/_, _%_, _<_, _^_}
 use native.Mathlib.Nat.{mod-eq-of-lt}
 use native.Mathlib.Omega.{arith}
 use lib.Bits.{bitAnd}
@@ -10,21 +10,20 @@ use borrow.Author.Tests.{le-leb}
 use lib.Dec.{eqb, leb}
 use lib.ListN.{length, getD, take, drop, replicate, length-append}
 use Rattle.std.proofs.shelf.Bits.{shr-shr, div-add-mod'}
-use Rattle.std.proofs.shelf.Lists.{take-at, drop-at, length-replicate}
+use Rattle.std.proofs.shelf.Lists.{take-at, drop-at}
 use Rattle.std.specs.Options.{isSome, valueOr}
 use Rattle.std.specs.declared.option.Option.{Option}
 use Rattle.std.specs.declared.option.Option.the-variants.{Some, None}
 use Rattle.diameter_headers.specs.Framing.{Framed, padded, fitting}
 use Rattle.diameter_headers.specs.Headers as read
-use Rattle.diameter.specs.Listing.{Listing, done, more, append, members, listed, listing, level, entryAt, kindIn}
+use Rattle.diameter.specs.Listing.{Listing, more, append, members, listed, listing, level, entryAt, kindIn}
 use Rattle.diameter_headers.specs.Octets.{be3, be4}
 use Rattle.diameter.specs.Values.{valueOf}
-use Rattle.diameter.specs.declared.entry.Entry.{Entry}
 use Rattle.diameter_headers.specs.declared.place.Kind.{Kind}
 use Rattle.diameter.proofs.Levels.{both-left, both-right, level-more, level-done}
 use Rattle.diameter_writer.specs.Encoding.{encodeAvp, encodeAvps, fitsAt, flagsFor, headerLenFor, lengthFor, quad, triple, vendorFor, vendorPart}
 use Rattle.diameter_writer.specs.Measures.{FieldsTyped, Typed}
-use Rattle.diameter_writer.specs.Messages.{allFit, encodeMessage, headerOctets, messageLen}
+use Rattle.diameter_writer.specs.Messages.{allFit, encodeMessage, messageLen}
 use Rattle.diameter_writer.specs.Written.{ReadsAs, entryFor, kindFor, written}
 use Rattle.diameter_writer.specs.declared.avp.Avp.{Avp}
 use Rattle.diameter_writer.specs.declared.message.MessageFields.{MessageFields}

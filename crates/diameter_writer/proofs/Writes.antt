@@ -1,5 +1,5 @@
 -- One write after another.
-use mathlib.Core.Bool.{Bool, true, false, cond}
+use mathlib.Core.Bool.{cond}
 use mathlib.Core.List.{List, [], _∷_, _++_, append-assoc}
 use mathlib.Core.Path.{_≡_, refl, sym, ap, subst, _∙_}
 use Prim.Native.Nat.{ℕ, _+_, _-_, _≤_}
@@ -11,7 +11,7 @@ use Rattle.std.specs.Options.{isSome}
 use Rattle.std.specs.declared.option.Option.{Option}
 use Rattle.std.specs.declared.option.Option.the-variants.{Some, None}
 use Rattle.diameter_headers.specs.Framing.{padded}
-use Rattle.diameter_writer.specs.Encoding.{encodeAvp, flagsFor, headerLenFor, lengthFor, quad, triple, vendorPart}
+use Rattle.diameter_writer.specs.Encoding.{encodeAvp, flagsFor, lengthFor, quad, triple, vendorPart}
 use Rattle.diameter_writer.specs.Writing.{Wrote}
 use Rattle.diameter_writer.specs.declared.avp.Avp.{Avp}
 

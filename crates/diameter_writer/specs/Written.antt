@@ -11,7 +11,6 @@ use Rattle.diameter.specs.declared.entry.Entry.{Entry}
 use Rattle.diameter_headers.specs.declared.headers.MessageHeader.{MessageHeader}
 use Rattle.diameter_headers.specs.declared.place.Kind.{Kind}
 use Rattle.diameter_writer.specs.Encoding.{encodeAvp, flagsFor, headerLenFor, lengthFor, vendorFor}
-use Rattle.diameter_writer.specs.Messages.{encodeMessage}
 use Rattle.diameter_writer.specs.declared.avp.Avp.{Avp}
 use Rattle.diameter_writer.specs.declared.message.MessageFields.{MessageFields}
 

@@ -15,5 +15,6 @@ abbrev pub andThen : Result (Unit {0}) Fault → Result (Unit {0}) Fault → Res
 andThen (Ok x) r = r
 andThen (Err f) r = Err f
 
+-- the length, then the AVPs
 abbrev pub verdict : List ℕ → Result (Unit {0}) Fault
 verdict m = andThen (lengthVerdict m) (framing (listing kindsOf rankOf Message m))

@@ -17,6 +17,13 @@ oneOf (x ∷ xs) n = cond (eqb n x) true (oneOf xs n)
 abbrev pub byVendor : ℕ → Kind Part → Kind Part → Kind Part
 byVendor vendor base gx = cond (eqb vendor 0) base (cond (eqb vendor 10415) gx Unknown)
 
+-- 8 Framed-IP-Address, 258 Auth-Application-Id, 263 Session-Id, 264 Origin-Host, 268 Result-Code, 283 Destination-Realm,
+-- 285 Re-Auth-Request-Type, 293 Destination-Host, 296 Origin-Realm, 297 Experimental-Result, 415 CC-Request-Number,
+-- 416 CC-Request-Type; 1001 Charging-Rule-Install, 1002 Charging-Rule-Remove, 1006 Event-Trigger.
+-- 278, 279, 281, 282, 284, 618, 505 and 510 are nobody's to look into: whatever they hold, they are octets here.
+-- 266 Vendor-Id, 298 Experimental-Result-Code; 1003 Charging-Rule-Definition, 1004 Charging-Rule-Base-Name, 1005 Charging-Rule-Name;
+-- 432 Rating-Group, 439 Service-Identifier, 507 Flow-Description, 1007 Metering-Method, 1008 Offline, 1009 Online,
+-- 1010 Precedence, 1011 Reporting-Level.
 abbrev pub kindsOf : Part → ℕ → ℕ → Kind Part
 kindsOf Message code vendor =
     byVendor vendor

@@ -2,7 +2,8 @@ use diameter_headers::Kind;
 use diameter_headers::Place;
 ghost use Rattle.gx_dictionary.specs.Dictionary.{kindsOf, rankOf};
 
-// Where an AVP can stand in a Gx message.
+// Where an AVP can stand in a Gx message: in the message itself, in an Experimental-Result (297), in a Charging-Rule-Remove
+// (1002), in a Charging-Rule-Install (1001), or in a Charging-Rule-Definition (1003).
 #[derive(Clone, Copy)]
 pub enum Part {
     Message,
@@ -12,7 +13,7 @@ pub enum Part {
     Definition,
 }
 
-// The vendor of the AVPs from 500 on.
+// The vendor of the AVPs from 500 on (3GPP).
 const TGPP: u32 = 10415;
 
 pub impl Place for Part as PartPlace {

@@ -1,8 +1,8 @@
 -- What one turn of reading and of writing hexadecimal keeps.
-use mathlib.Core.Bool.{Bool, true, false, cond}
+use mathlib.Core.Bool.{true, false, cond}
 use mathlib.Core.List.{List, [], _∷_, _++_, append-assoc, append-nil}
-use mathlib.Core.Path.{_≡_, refl, sym, ap, subst, _∙_}
-use Prim.Native.Nat.{ℕ, suc, _+_, _-_, _*_, _/_, _%_, _≤_, _<_}
+use mathlib.Core.Path.{_≡_, refl, sym, ap, _∙_}
+use Prim.Native.Nat.{ℕ, _+_, _-_, _*_, _/_, _%_, _≤_, _<_}
 use native.Mathlib.Numerals.{add-one}
 use native.Mathlib.Omega.{arith}
 use lib.ListN.{length, drop, getD}
@@ -14,7 +14,7 @@ use Rattle.std.specs.Options.{Cases}
 use Rattle.std.specs.Results.{isErr, isOk}
 use Rattle.std.specs.declared.result.Result.{Result}
 use Rattle.std.specs.declared.result.Result.the-variants.{Ok, Err}
-use Rattle.hex_text.specs.Hex.{digit, digitThen, digitValue, ended, hexRead, hexText, isBlank, octetThen, within}
+use Rattle.hex_text.specs.Hex.{digit, digitThen, digitValue, ended, hexRead, hexText, isBlank, octetThen}
 use Rattle.hex_text.specs.declared.hex.HexError.{HexError}
 use Rattle.hex_text.specs.declared.hex.HexError.the-variants.{NotADigit, HalfOctet}
 

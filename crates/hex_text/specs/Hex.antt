@@ -43,6 +43,7 @@ digitThen at None half rest = Err (NotADigit at)
 digitThen at (Some d) None rest = rest (Some d)
 digitThen at (Some d) (Some h) rest = octetThen (h * 16 + d) (rest None)
 
+-- the end of the text, after the first half of an octet or none
 abbrev pub ended : Option ℕ → Result (List ℕ) HexError
 ended None = Ok []
 ended (Some h) = Err HalfOctet
@@ -52,7 +53,7 @@ unfoldable pub hexRead : ℕ → Option ℕ → List ℕ → Result (List ℕ) H
 hexRead at half [] = ended half
 hexRead at half (c ∷ cs) = cond (isBlank c) (hexRead (at + 1) half cs) (digitThen at (digitValue c) half (λ next. hexRead (at + 1) next cs))
 
--- r is what the text reads as, unless memory ran out
+-- r is what the text reads as, or says that memory ran out
 abbrev pub HexRead : {V : Type 0} → (V → List ℕ) → List ℕ → Result V HexError → Type 0
 HexRead items text (Ok v) = Ok (items v) ≡ hexRead 0 None text
 HexRead items text (Err NoMemory) = Unit {0}

@@ -76,6 +76,8 @@ pub const UPDATE_AVPS: [Avp<'static>; 9] = [
 #[cfg(test)]
 mod tests {
     use super::*;
+    use diameter::Item;
+    use diameter::Reader;
     use diameter_checks::check_framing;
     use diameter_checks::find;
     use diameter_headers::check_length;
@@ -110,6 +112,19 @@ mod tests {
         };
         check(entry.offset == 152 && entry.start == 164 && entry.end == 168)?;
         check(find(UPDATE_REQUEST, Part::Message, 1006, 0).is_none())
+    }
+
+    #[test]
+    fn reads_avp_after_avp() -> Result<(), Fail> {
+        let mut reader = Reader::new(UPDATE_REQUEST);
+        let Ok(Some((session, Item::Octets(text)))) = reader.next(Part::Message) else {
+            return Err(Fail::new("no Session-Id"));
+        };
+        check(session.code == 263 && session.offset == 20 && text == b"gateway.example;1;7")?;
+        let Ok(Some((application, Item::Number(number)))) = reader.next(Part::Message) else {
+            return Err(Fail::new("no Auth-Application-Id"));
+        };
+        check(application.offset == 48 && number == 16777224)
     }
 
     #[test]

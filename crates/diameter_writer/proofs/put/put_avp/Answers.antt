@@ -1,12 +1,12 @@
 use mathlib.Core.List.{_∷_, []}
-use mathlib.Core.Path.{_≡_, refl, sym, ap, _∙_}
+use mathlib.Core.Path.{_≡_, ap, _∙_}
 use Prim.Native.Nat.{ℕ, _+_, _-_}
 use native.Mathlib.Omega.{arith}
 use lib.ListN.{length, getD}
 use Rattle.std.proofs.shelf.Lists.{length-replicate}
 use Rattle.diameter_headers.specs.Framing.{padded}
 use Rattle.diameter_writer.specs.Encoding.{quad, lengthFor, flagsFor}
-use Rattle.diameter_writer.proofs.Writes.{front, wrote-avp, wrote-length, encode-length, vendor-length, zeros-are}
+use Rattle.diameter_writer.proofs.Writes.{wrote-avp, wrote-length, encode-length, vendor-length, zeros-are}
 use Rattle.diameter_writer.proofs.put.put_avp.Needs as need
 
 pub put-end-requires : need.put-end-requires

@@ -4,7 +4,7 @@ use mathlib.Core.Path.{sym, ap, _∙_}
 use lib.Chars.{codes}
 use Rattle.std.specs.Of.Vec.{vec-items}
 use Rattle.hex_text.specs.Hex.{hexText}
-use Rattle.dump.specs.Lines.{allPrintable, octetsText}
+use Rattle.dump.specs.Lines.{octetsText}
 use Rattle.hex_text.proofs.Digits.{chain}
 use Rattle.dump.proofs.line.push_octets.Needs as need
 

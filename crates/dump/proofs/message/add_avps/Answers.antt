@@ -1,11 +1,10 @@
 use mathlib.Core.List.{_++_}
-use mathlib.Core.Path.{_≡_, sym, ap, _∙_}
+use mathlib.Core.Path.{_≡_, sym, _∙_}
 use Rattle.std.specs.Of.Vec.{vec-items}
 use Rattle.std.specs.declared.result.Result.the-variants.{Err}
 use Rattle.refusals.specs.Faults.{faultAt}
 use Rattle.refusals.specs.declared.refusal.Refusal.the-variants.{NoSpace}
 use Rattle.diameter.specs.Listing.{listing}
-use Rattle.diameter_checks.specs.Questions.{framing}
 use Rattle.gx_dictionary.specs.Dictionary.{kindsOf, rankOf}
 use Rattle.dump.specs.Dump.{endText, lines}
 use Rattle.gx_dictionary.specs.declared.dictionary.Part.the-variants.{Message}

@@ -1,5 +1,5 @@
-use mathlib.Core.List.{[], _∷_, _++_}
-use mathlib.Core.Path.{_≡_, sym, ap, _∙_}
+use mathlib.Core.List.{_++_}
+use mathlib.Core.Path.{sym, ap, _∙_}
 use Rattle.std.specs.Of.Vec.{vec-items}
 use Rattle.dump.specs.Dump.{endText, faultText, line}
 use Rattle.dump.proofs.message.push_end.Needs as need

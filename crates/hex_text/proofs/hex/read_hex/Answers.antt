@@ -1,7 +1,6 @@
-use mathlib.Core.Path.{_≡_, refl, sym, ap, subst, _∙_}
+use mathlib.Core.Path.{sym, subst, _∙_}
 use Prim.Native.Nat.{_+_}
 use Rattle.std.specs.Of.Vec.{vec-items}
-use Rattle.std.specs.declared.option.Option.the-variants.{Some, None}
 use Rattle.hex_text.proofs.Digits.{Reading, blank-more, no-digit, first-half, second-half, read-whole, read-half, grew}
 use Rattle.hex_text.proofs.hex.read_hex.Needs as need
 use Rattle.hex_text.proofs.hex.read_hex.Needs.{in-None, in-Some-half·else-is-err}
