@@ -10,7 +10,7 @@ use Rattle.refusals.specs.Faults.{faultAt}
 use Rattle.refusals.specs.declared.fault.Fault.{Fault}
 use Rattle.refusals.specs.declared.refusal.Refusal.{Refusal}
 use Rattle.diameter.specs.Listing.{Listing, done, fault, more}
-use Rattle.diameter_checks.specs.Questions.{framing, first, named, noted}
+use Rattle.diameter_checks.specs.Questions.{framing, first, named}
 use Rattle.diameter.specs.Values.{Value}
 use Rattle.diameter.specs.Visiting.{Shown}
 use Rattle.diameter.specs.declared.entry.Entry.{Entry}
@@ -46,9 +46,12 @@ kept-first None true x p = refl
 kept-first None false x p = refl
 kept-first (Some y) b x p = refl
 
+abbrev pub kept : {P : Type 0} → First P → Entry P → Value → First P
+kept u e v = record { code = u .code; vendor = u .vendor; found = or-else (u .found) (cond (named (u .code) (u .vendor) e) (Some e) (u .found)) }
+
 -- the first AVP of its name is what it holds already or the first of the list
-pub shown-first : {P : Type 0} (l : Listing P) (u : First P) (r : Result (Unit {0}) Fault) (w : First P) → Shown (Passes (λ u e v. noted u e)) u l r w → w .found ≡ or-else (u .found) (first (u .code) (u .vendor) l)
+pub shown-first : {P : Type 0} (l : Listing P) (u : First P) (r : Result (Unit {0}) Fault) (w : First P) → Shown (Passes kept) u l r w → w .found ≡ or-else (u .found) (first (u .code) (u .vendor) l)
 unfolding Shown first
 shown-first done u r w s = ap (λ x. x .found) (s .1) ∙ none-else (u .found)
 shown-first (fault at) u r w s = ap (λ x. x .found) (s .1) ∙ none-else (u .found)
-shown-first (more e v l) u r w s = shown-first l (noted u e) r w (passes-more (λ u e v. noted u e) u e v l r w s) ∙ kept-first (u .found) (named (u .code) (u .vendor) e) e (first (u .code) (u .vendor) l)
+shown-first (more e v l) u r w s = shown-first l (kept u e v) r w (passes-more kept u e v l r w s) ∙ kept-first (u .found) (named (u .code) (u .vendor) e) e (first (u .code) (u .vendor) l)

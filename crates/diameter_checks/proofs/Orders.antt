@@ -3,7 +3,7 @@ use mathlib.Core.Bool.{Bool, true, false, cond}
 use mathlib.Core.List.{List, [], _∷_}
 use mathlib.Core.Logic.{⊎-elim}
 use mathlib.Core.Path.{_≡_, refl, sym, ap, subst, _∙_}
-use Prim.Native.Nat.{ℕ, zero, suc, _+_, _-_, _≤_}
+use Prim.Native.Nat.{ℕ, zero, suc, _+_, _-_, _≤_, _<_}
 use native.Mathlib.Omega.{arith}
 use lib.ListN.{length, drop}
 use Rattle.std.proofs.shelf.Tests.{cases-lt}
@@ -68,11 +68,25 @@ unfolding Rising listed
 listed-rises kinds zero p parent at xs = tt
 listed-rises kinds (suc depth) p parent at xs = rising-wider (at + 0) (at + length xs) at (at + length xs) (level kinds (listed kinds depth) p parent 0 at xs) (omega arith) (omega arith) (level-rises kinds (listed kinds depth) (listed-rises kinds depth) p parent 0 at xs)
 
+-- a message with less than a header has no AVPs
+listing-short : {P : Type 0} (kinds : P → ℕ → ℕ → Kind P) (rank : P → ℕ) (p : P) (m : List ℕ) → length m < 20 → listing kinds rank p m ≡ done
+unfolding listing listed
+listing-short kinds rank p m short = level-done kinds (listed kinds (rank p)) p 0 20 (drop 20 m) (length-drop 20 m ∙ omega arith)
+
+rising-done : (P : Type 0) (lo hi : ℕ) → Rising {P = P} lo hi done
+unfolding Rising
+rising-done P lo hi = tt
+
+rising-from : {P : Type 0} (kinds : P → ℕ → ℕ → Kind P) (rank : P → ℕ) (p : P) (m : List ℕ) → Rising 20 (20 + length (drop 20 m)) (listing kinds rank p m)
+unfolding listing
+rising-from kinds rank p m = listed-rises kinds (suc (rank p)) p 0 20 (drop 20 m)
+
+whole-length : (m : List ℕ) → 20 ≤ length m → 20 + length (drop 20 m) ≡ length m
+whole-length m long = ap (λ n. 20 + n) (length-drop 20 m) ∙ omega arith
+
 pub listing-rises : {P : Type 0} (kinds : P → ℕ → ℕ → Kind P) (rank : P → ℕ) (p : P) (m : List ℕ) → Rising 20 (length m) (listing kinds rank p m)
-unfolding listing listed Rising
 listing-rises kinds rank p m =
-    let rises = listed-rises kinds (suc (rank p)) p 0 20 (drop 20 m) in
     ⊎-elim
-    (λ short. subst (Rising 20 (length m)) (sym (level-done kinds (listed kinds (rank p)) p 0 20 (drop 20 m) (length-drop 20 m ∙ omega arith))) tt)
-    (λ long. subst (λ n. Rising 20 n (level kinds (listed kinds (rank p)) p 0 0 20 (drop 20 m))) (ap (λ n. 20 + n) (length-drop 20 m) ∙ omega arith) rises)
+    (λ short. subst (Rising 20 (length m)) (sym (listing-short kinds rank p m short)) (rising-done _ 20 (length m)))
+    (λ long. subst (λ n. Rising 20 n (listing kinds rank p m)) (whole-length m long) (rising-from kinds rank p m))
     (cases-lt (length m) 20)

@@ -2,7 +2,6 @@
 use mathlib.Core.Bool.{Bool, false, cond}
 use Prim.Native.Nat.{ℕ}
 use lib.Dec.{eqb}
-use Rattle.std.specs.Options.{isSome}
 use Rattle.std.specs.declared.option.Option.{Option}
 use Rattle.std.specs.declared.option.Option.the-variants.{Some, None}
 use Rattle.std.specs.declared.result.Result.{Result}
@@ -12,7 +11,6 @@ use Rattle.refusals.specs.declared.fault.Fault.{Fault}
 use Rattle.refusals.specs.declared.refusal.Refusal.the-variants.{AvpLength}
 use Rattle.diameter.specs.Listing.{Listing, done, fault, more}
 use Rattle.diameter.specs.declared.entry.Entry.{Entry}
-use Rattle.diameter_checks.specs.declared.questions.First.{First}
 
 -- is every AVP well framed? The first that is not
 unfoldable pub framing : {P : Type 0} → Listing P → Result (Unit {0}) Fault
@@ -29,7 +27,3 @@ unfoldable pub first : {P : Type 0} → ℕ → ℕ → Listing P → Option (En
 first code vendor done = None
 first code vendor (fault at) = None
 first code vendor (more e v l) = cond (named code vendor e) (Some e) (first code vendor l)
-
--- what a search has found after one AVP more: it keeps the first
-abbrev pub noted : {P : Type 0} → First P → Entry P → First P
-noted u e = record { code = u .code; vendor = u .vendor; found = cond (isSome (u .found)) (u .found) (cond (named (u .code) (u .vendor) e) (Some e) (u .found)) }

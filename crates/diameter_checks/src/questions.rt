@@ -6,12 +6,15 @@ use diameter::visit_message;
 use diameter_headers::Place;
 use refusals::Fault;
 use refusals::Refusal;
+ghost use mathlib.Core.Bool.{cond};
 ghost use mathlib.Core.Path.{_≡_};
 ghost use lib.ListN.{length};
+ghost use Rattle.std.specs.Options.{isSome};
+ghost use Rattle.std.specs.declared.option.Option.the-variants.{Some};
 ghost use Rattle.std.specs.declared.result.Result.the-variants.{Ok};
 ghost use Rattle.diameter.specs.Listing.{listing};
 ghost use Rattle.diameter_checks.specs.Order.{Rising};
-ghost use Rattle.diameter_checks.specs.Questions.{framing, first, noted};
+ghost use Rattle.diameter_checks.specs.Questions.{framing, first, named};
 
 // Asks nothing but what the walk itself asks.
 #[derive(Clone, Copy)]
@@ -43,7 +46,7 @@ struct First<P> {
 }
 
 impl<P: Place> Visitor<P> for First<P> as FirstVisitor {
-    ghost shows = { λ u e _ a w. (a ≡ Ok tt) × (w ≡ noted u e) };
+    ghost shows = { λ u e _ a w. (a ≡ Ok tt) × (w ≡ record { code = u .code; vendor = u .vendor; found = cond (isSome (u .found)) (u .found) (cond (named (u .code) (u .vendor) e) (Some e) (u .found)) }) };
 
     fn show(&mut self, entry: &Entry<P>, _item: Item<'_>) -> Result<(), Refusal> {
         if self.found.is_none() && entry.code == self.code && entry.vendor == self.vendor {

@@ -1,4 +1,4 @@
-use mathlib.Core.Path.{_≡_, sym, ap, subst, _∙_}
+use mathlib.Core.Path.{_≡_, refl, sym, ap, subst, _∙_}
 use Prim.Native.Nat.{ℕ}
 use native.Mathlib.Omega.{arith}
 use borrow.Author.Needs.{needs}
@@ -22,6 +22,12 @@ lies-here g t c = told-lies (g .P·Place .kinds) (g .P·Place .rank) (c .args .p
 
 kind-here : (g : Over) (t : ℕ) (c : In-Some g t) → c .in-Some .entry .kind ≡ g .P·Place .kinds (c .args .place) (c .in-Some .entry .code) (c .in-Some .entry .vendor)
 kind-here g t c = told-kind (g .P·Place .kinds) (g .P·Place .rank) (c .args .place) (c .args .parent) (c .args .message .now) (c .loop-entry .cursor) (c .read-avp .last .cursor) (c .loop-entry .inv .within) (c .in-Some .entry) (c .in-Some .item) (told-here g t c)
+
+pub loop-entry-holds : need.loop-entry-holds
+loop-entry-holds g t c = record { within = c .pre; end = refl; goes = λ r w s. s }
+
+pub read-avp-requires : need.read-avp-requires
+read-avp-requires g t c κs = c .loop-entry .inv .within
 
 pub returns-in-Break-entry : need.returns-in-Break-entry
 returns-in-Break-entry g t c =
