@@ -1,5 +1,6 @@
 // Questions that are put to a whole message, whatever it carries: each is a visitor of the walk.
-mod questions;
+mod framing;
+mod search;
 
-pub use questions::check_framing;
-pub use questions::find;
+pub use framing::check_framing;
+pub use search::find;

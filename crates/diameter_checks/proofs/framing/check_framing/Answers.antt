@@ -1,6 +1,6 @@
 use Rattle.diameter_checks.proofs.Asked.{shown-framing}
 use Rattle.diameter_checks.proofs.Orders.{listing-rises}
-use Rattle.diameter_checks.proofs.questions.check_framing.Needs as need
+use Rattle.diameter_checks.proofs.framing.check_framing.Needs as need
 
 pub returns : need.returns
 returns g c = record {
