@@ -1,2 +1,3 @@
 pub mod Order
 pub mod Questions
+pub mod Steps

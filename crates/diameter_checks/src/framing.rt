@@ -11,6 +11,7 @@ ghost use Rattle.std.specs.declared.result.Result.the-variants.{Ok};
 ghost use Rattle.diameter.specs.Listing.{listing};
 ghost use Rattle.diameter_checks.specs.Order.{Rising};
 ghost use Rattle.diameter_checks.specs.Questions.{framing};
+ghost use Rattle.diameter_checks.specs.Steps.{Steps};
 
 // Asks nothing but what the walk itself asks.
 #[derive(Clone, Copy)]
@@ -25,9 +26,10 @@ impl<P: Place> Visitor<P> for Frames as FramesVisitor {
 }
 
 // Whether every AVP of a message is well framed, groups included; else the first that is not. The offsets of the list rise,
-// so all that lies before the fault was well framed.
+// so all that lies before the fault was well framed. `steps` is the law of that list.
 pub fn check_framing<P: Place>(message: &[u8], place: P) -> Result<(), Fault>
     ensures value { λ r. ⌜ r ≡ framing (listing (P·Place .kinds) (P·Place .rank) place (now (message .entry))) ⌝ }
+    ensures steps { λ _. ⌜ Steps (P·Place .kinds) (P·Place .rank) ⌝ }
     ensures ordered { λ _. ⌜ Rising 20 (length (now (message .entry))) (listing (P·Place .kinds) (P·Place .rank) place (now (message .entry))) ⌝ }
 {
     visit_message(message, place, &mut Frames)

@@ -18,7 +18,7 @@ pub struct Avp<'a> {
 
 impl Avp<'_> {
     // The octet of flags: V (0x80) where there is a vendor, M (0x40) where the AVP is mandatory.
-    pub fn flags(&self) -> u8
+    pub(crate) fn flags(&self) -> u8
         ensures { λ r. ⌜ r ≡ flagsFor (now (self .entry)) ⌝ }
     {
         match (self.vendor, self.mandatory) {
@@ -30,14 +30,14 @@ impl Avp<'_> {
     }
 
     // The vendor that a reader will see: 0 where there is none.
-    pub fn vendor_or_zero(&self) -> u32
+    pub(crate) fn vendor_or_zero(&self) -> u32
         ensures { λ r. ⌜ r ≡ vendorFor (now (self .entry)) ⌝ }
     {
         self.vendor.unwrap_or(0)
     }
 
     // The octets before the data.
-    pub fn header_len(&self) -> usize
+    pub(crate) fn header_len(&self) -> usize
         ensures { λ r. ⌜ r ≡ headerLenFor (now (self .entry)) ⌝ }
     {
         match self.vendor {
@@ -48,7 +48,7 @@ impl Avp<'_> {
 
     // Whether the data has the length of what the AVP is at the place. (That code and vendor fit four octets is known of any `u32`;
     // the second clause hands it to the proof.)
-    pub fn fits_at<P: Place>(&self, place: P) -> bool
+    pub(crate) fn fits_at<P: Place>(&self, place: P) -> bool
         ensures value { λ r. ⌜ r ≡ fitsAt (P·Place .kinds) place (now (self .entry)) ⌝ }
         ensures typed { λ _. ⌜ (now (self .entry) .code < 2 ^ 32) × (vendorFor (now (self .entry)) < 2 ^ 32) ⌝ }
     {

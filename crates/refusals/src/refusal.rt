@@ -118,7 +118,7 @@ impl Refusal {
     }
 
     // Whether a fault of this kind names the AVP at fault.
-    pub fn is_located(self) -> bool
+    pub(crate) fn is_located(self) -> bool
         ensures { λ r. ⌜ r ≡ meaning self .located ⌝ }
     {
         match self {

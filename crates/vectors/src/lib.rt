@@ -154,20 +154,6 @@ mod tests {
     }
 
     #[test]
-    fn finds_the_fault_in_a_group() -> Result<(), Fail> {
-        let damaged =
-            b"\x01\x00\x00\x3c\x40\x00\x01\x10\x01\x00\x00\x08\x00\x00\x00\x00\x00\x00\x00\x00\x00\x00\x03\xe9\xc0\x00\x00\x28\x00\x00\x28\xaf\x00\x00\x03\xeb\xc0\x00\x00\x1b\x00\x00\x28\xaf\x00\x00\x03\xf2\xc0\x00\x00\x0f\x00\x00\x28\xaf\x00\x00\x00\x00";
-        check_eq(check_length(damaged), Ok(()))?;
-        check_eq(
-            check_framing(damaged, Part::Message),
-            Err(Fault {
-                refusal: Refusal::AvpLength,
-                offset: 44,
-            }),
-        )
-    }
-
-    #[test]
     fn shows_a_damaged_message(rt: LibcRuntime) -> Result<(), Fail> {
         let text = message_text(
             rt.alloc(),
