@@ -14,7 +14,7 @@ use Rattle.diameter_checks.specs.Questions.{framing, first, named}
 use Rattle.diameter.specs.Values.{Value}
 use Rattle.diameter.specs.Visiting.{Shown}
 use Rattle.diameter.specs.declared.entry.Entry.{Entry}
-use Rattle.diameter_checks.specs.declared.search.First.{First}
+use Rattle.diameter_checks.specs.declared.lookup.First.{First}
 use Rattle.diameter.proofs.Shows.{cases-ok}
 
 -- a visitor that lets every AVP pass and goes on as `after` says

@@ -1,6 +1,6 @@
 // Questions that are put to a whole message, whatever it carries: each is a visitor of the walk.
 mod framing;
-mod search;
+mod lookup;
 
 pub use framing::check_framing;
-pub use search::find;
+pub use lookup::find;
