@@ -3,7 +3,7 @@ ghost use Prim.Native.Nat.{_^_, _<_};
 ghost use Rattle.diameter_headers.specs.Octets.{be3, be4};
 
 // Three octets as a number, the first octet the highest.
-pub fn number3(a: u8, b: u8, c: u8) -> u32
+pub(crate) fn number3(a: u8, b: u8, c: u8) -> u32
     ensures value { λ r. ⌜ r ≡ be3 a b c ⌝ }
     ensures bound { λ r. ⌜ r < 2 ^ 24 ⌝ }
 {
