@@ -1,4 +1,4 @@
-ghost use Rattle.std.specs.Prelude.{◌≡◌, Decides};
+ghost use Rattle.std.specs.Prelude.{◌≡◌, ◌==◌, Decides};
 ghost use Rattle.refusals.specs.Meanings.{meaning};
 ghost use Rattle.refusals.specs.declared.refusal.Refusal.{Refusal};
 ghost use Rattle.std.specs.Cmp.Rules.{comparing};
@@ -135,11 +135,14 @@ impl Refusal {
 
 // Refusals are compared by their numbers, which tell them apart.
 impl PartialEq for Refusal {
-    ghost equals = { λ x y r. Decides r (x ≡ y) };
+    ghost eq = { λ x y. (meaning x).number == (meaning y).number };
 
     ghost laws = { Prim.search (comparing, rules) };
 
-    fn eq(&self, other: &Refusal) -> bool {
+    fn eq(&self, other: &Refusal) -> bool
+        ensures value { result ≡ ((meaning self.now).number == (meaning other.now).number) }
+        ensures equal { Decides result (self.now ≡ other.now) }
+    {
         self.number() == other.number()
     }
 }
