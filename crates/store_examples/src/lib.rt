@@ -1,4 +1,6 @@
 // Names, keys and stores by small examples.
+#![tactic(auto)]
+
 #[cfg(test)]
 mod tests {
     use chained_store::Chained;
