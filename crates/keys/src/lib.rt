@@ -1,4 +1,6 @@
 // The keys of rule stores: what a store asks of a key, and the two kinds of key.
+#![tactic(auto)]
+
 mod activation;
 mod hashing;
 mod key;

@@ -1,4 +1,6 @@
 // Names of rules and groups, and their order.
+#![tactic(auto)]
+
 mod name;
 mod spelling;
 

@@ -1,8 +1,10 @@
-ghost use Rattle.std.specs.Prelude.{◌≡◌, ◌<◌, ◌⊎◌, length, Decides, MatchOption};
+ghost use Rattle.std.specs.Prelude.{◌≡◌, ◌<◌, ◌⊎◌, ◌==◌, length, Decides, MatchOption};
 ghost use Rattle.names.specs.Spelling.{spelling};
 ghost use Rattle.names.specs.Order.{lexical, by_name, TotalOrder};
 ghost use Rattle.std.specs.Cmp.Rules.{comparing};
-ghost use Rattle.std.proofs.Common.{rules, arith};
+ghost use Rattle.std.specs.Ordering.{on};
+ghost use Rattle.std.specs.Cmp.Lexicographic.{pointwise};
+ghost use Rattle.std.proofs.Common.{rules};
 
 use crate::name::Name;
 use std::cmp::Ordering;
@@ -66,11 +68,14 @@ fn compare_octets(a: &[u8], b: &[u8]) -> Ordering
 }
 
 impl PartialEq for Name {
-    ghost equals = { λ a b r. Decides r (a ≡ b) };
+    ghost eq = { on spelling (pointwise ◌==◌) };
 
-    ghost laws = { first_of (Prim.search (comparing, rules), Prim.grind (arith, Self.row.coded.inj)) };
+    ghost laws = { Prim.search (comparing, rules) };
 
-    fn eq(&self, other: &Name) -> bool {
+    fn eq(&self, other: &Name) -> bool
+        ensures value { result ≡ on spelling (pointwise ◌==◌) self.now other.now }
+        ensures equal { Decides result (self.now ≡ other.now) }
+    {
         self.octets() == other.octets()
     }
 }

@@ -1,4 +1,6 @@
 // What can be done over any store by finding, putting, removing and walking alone.
+#![tactic(auto)]
+
 mod clearing;
 mod counting;
 

@@ -1,4 +1,6 @@
 // Names, keys and stores by small examples.
+#![tactic(auto)]
+
 #[cfg(test)]
 mod tests {
     use chained_store::Chained;
@@ -26,8 +28,8 @@ mod tests {
     fn names_have_1_to_32_octets(rt: HostRuntime) -> Result<(), Fail> {
         assert!(rt; Name::new(b"").is_none());
         assert!(rt; Name::new(&[0; 33]).is_none());
-        assert!(rt; name(&[0; 32])?.octets() == &[0; 32]);
-        assert!(rt; name(b"\x00")?.octets() == b"\x00");
+        assert!(rt; name(&[0; 32])?.octets() == [0; 32].as_slice());
+        assert!(rt; name(b"\x00")?.octets() == b"\x00".as_slice());
         assert!(rt; name(b"\x00")? != name(b"\x00\x00")?);
         Ok(())
     }
@@ -56,13 +58,13 @@ mod tests {
             !web.is_like(&ActivationKey {
                 kind: NameKind::Group,
                 ..web
-            },)
+            })
         );
         assert!(rt;
             !web.is_like(&ActivationKey {
                 name: name(b"webs")?,
                 ..web
-            },)
+            })
         );
         Ok(())
     }

@@ -1,5 +1,5 @@
 -- Rows of a key and a record, of which the first n are in use, as a map.
-use Rattle.std.specs.Prelude.{◌≡◌, ℕ, ◌<◌, ◌≤◌, Bool, cond, List, [], ◌∷◌, map, length, take, Some, None, Option, ◌≢◌, slice_index_or}
+use Rattle.std.specs.Prelude.{ℕ, ◌<◌, ◌≤◌, Bool, cond, List, [], ◌∷◌, map, length, take, Some, None, Option, ◌≢◌, slice_index_or}
 use Rattle.stores.specs.Maps.{Map}
 use Rattle.stores.specs.declared.row.Row.{Row}
 

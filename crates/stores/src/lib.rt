@@ -1,4 +1,6 @@
 // The interface of rule stores, and the rows that the delivered stores lie in.
+#![tactic(auto)]
+
 mod reading;
 mod row;
 mod store;

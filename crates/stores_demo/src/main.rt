@@ -1,4 +1,6 @@
 // stores_demo: gives a flat store and a chained one the same calls, over both kinds of key, and prints what they answered.
+#![tactic(auto)]
+
 mod pair;
 mod passes;
 mod samples;

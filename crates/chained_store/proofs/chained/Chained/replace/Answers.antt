@@ -15,7 +15,7 @@ link-requires g c =
     record {
       row = rw c.write.ensures.rows (omega (arith, length-set u.rows.now i c.args.row));
       chains = rw (c.write.ensures.rows, c.write.ensures.links, c.write.ensures.used, c.unlink.ensures.used)
-          (chains_set g.row.K-Key.digest u.rows.now u.links.now n i c.args.row a c.unlink.ensures.chains);
+          (chains_set g.K.Key.digest u.rows.now u.links.now n i c.args.row a c.unlink.ensures.chains);
     }
 
 pub returns : goal.returns
@@ -23,7 +23,7 @@ returns g c =
     let l = c.link.new.self in
     let same = c.write.ensures.used ∙ c.unlink.ensures.used in
     record {
-      chains = rw (← same) (chains_back g.row.K-Key.digest l.rows.now l.links.now c.write.new.self.used c.args.i (let p = c.requires.row in omega arith) c.link.ensures.chains);
+      chains = rw (← same) (chains_back g.K.Key.digest l.rows.now l.links.now c.write.new.self.used c.args.i (let p = c.requires.row in omega arith) c.link.ensures.chains);
       rows = c.link.ensures.rows ∙ c.write.ensures.rows ∙ ap (λ r. set r c.args.i c.args.row) c.unlink.ensures.rows;
       used = c.link.ensures.used ∙ same;
     }

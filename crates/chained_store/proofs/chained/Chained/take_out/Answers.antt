@@ -6,7 +6,7 @@ use Rattle.chained_store.proofs.chained.Chained.take_out.Goals as goal
 pub replace-requires : goal.replace-requires
 replace-requires g c =
     let u = c.unlink.new.self in
-    record { row = c.if-i-last.true; chains = chains_last g.row.K-Key.digest u.rows.now u.links.now c.args.self.now.used c.unlink.ensures.chains }
+    record { row = c.if-i-last.true; chains = chains_last g.K.Key.digest u.rows.now u.links.now c.args.self.now.used c.unlink.ensures.chains }
 
 pub returns-then-i-last : goal.returns-then-i-last
 returns-then-i-last g c =
@@ -27,7 +27,7 @@ returns-else-i-last g c =
     let n = c.args.self.now.used in
     let at : c.args.i ≡ n - 1 = (let a = c.requires.row in let b = c.if-i-last.false in omega arith) in
     record {
-      chains = chains_last g.row.K-Key.digest u.rows.now u.links.now n c.unlink.ensures.chains;
+      chains = chains_last g.K.Key.digest u.rows.now u.links.now n c.unlink.ensures.chains;
       rows = λ d. c.unlink.ensures.rows ∙ sym (set-get_or rows (n - 1) d) ∙ ap (λ m. set rows m (get_or rows (n - 1) d)) (sym at);
       used = refl;
     }

@@ -5,13 +5,13 @@ use Rattle.chained_store.proofs.chained.Chained.unlink.Goals as goal
 pub before-p-requires : goal.before-p-requires
 before-p-requires g c =
     let s = c.args.self.now in
-    record { row = c.requires.chains.low c.args.x c.requires.row; wide = c.requires.chains.wide; leads = leads_live g.row.K-Key.digest s.rows.now s.links.now s.used c.args.x c.requires.chains }
+    record { row = c.requires.chains.low c.args.x c.requires.row; wide = c.requires.chains.wide; leads = leads_live g.K.Key.digest s.rows.now s.links.now s.used c.args.x c.requires.chains }
 
 pub returns : goal.returns
 returns g c =
     let s = c.args.self.now in
     record {
-      chains = unlinked g.row.K-Key.digest s.rows.now s.links.now s.used c.args.x c.before-p.result c.requires.row c.requires.chains c.before-p.ensures;
+      chains = unlinked g.K.Key.digest s.rows.now s.links.now s.used c.args.x c.before-p.result c.requires.row c.requires.chains c.before-p.ensures;
       rows = refl;
       used = refl;
     }

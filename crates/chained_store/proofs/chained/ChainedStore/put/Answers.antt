@@ -12,8 +12,8 @@ link-requires g c =
     let x : Row g.row.K.Denot g.row.R.Denot = record { key = c.args.key; value = c.args.value } in
     record {
       row = omega (arith, length-set s.rows.now s.used x, c.if-used-self.true);
-      chains = chains_set g.row.K-Key.digest s.rows.now s.links.now s.used s.used x c.if-used-self.true
-          (chains_skip g.row.K-Key.digest s.rows.now s.links.now s.used c.requires.chains);
+      chains = chains_set g.K.Key.digest s.rows.now s.links.now s.used s.used x c.if-used-self.true
+          (chains_skip g.K.Key.digest s.rows.now s.links.now s.used c.requires.chains);
     }
 
 pub returns-then-i-used : goal.returns-then-i-used
@@ -21,8 +21,8 @@ returns-then-i-used g c =
     let s = c.args.self.now in
     let x : Row g.row.K.Denot g.row.R.Denot = record { key = c.args.key; value = c.args.value } in
     record {
-      sound = over_in_order g.row.K-Key.digest s.rows.now s.links.now g.row.K-Key.alike g.row.K-Key.equal s.used c.place-of-i.result x c.if-i-used.true c.place-of-i.ensures c.requires;
-      put = put_over g.row.K-Key.alike g.row.K-Key.equal s.rows.now s.used c.requires.dense c.place-of-i.result x c.if-i-used.true c.place-of-i.ensures _;
+      sound = over_in_order g.K.Key.digest s.rows.now s.links.now g.K.Key.alike g.K.Key.equal s.used c.place_of-i.result x c.if-i-used.true c.place_of-i.ensures c.requires;
+      put = put_over g.K.Key.alike g.K.Key.equal s.rows.now s.used c.requires.dense c.place_of-i.result x c.if-i-used.true c.place_of-i.ensures _;
       room = length-set _ _ _;
     }
 
@@ -31,22 +31,22 @@ returns-then-used-self g c =
     let s = c.args.self.now in
     let l = c.link.new.self in
     let x : Row g.row.K.Denot g.row.R.Denot = record { key = c.args.key; value = c.args.value } in
-    let absent = place_absent s.rows.now s.used c.place-of-i.result c.args.key c.place-of-i.ensures c.if-i-used.false in
+    let absent = place_absent s.rows.now s.used c.place_of-i.result c.args.key c.place_of-i.ensures c.if-i-used.false in
     record {
       sound = record {
-        dense = rw c.link.ensures.rows (new_dense g.row.K-Key.alike g.row.K-Key.equal s.rows.now s.used c.requires.dense x c.if-used-self.true absent);
-        chains = chains_more g.row.K-Key.digest l.rows.now l.links.now s.used c.link.ensures.chains;
+        dense = rw c.link.ensures.rows (new_dense g.K.Key.alike g.K.Key.equal s.rows.now s.used c.requires.dense x c.if-used-self.true absent);
+        chains = chains_more g.K.Key.digest l.rows.now l.links.now s.used c.link.ensures.chains;
       };
-      put = rw c.link.ensures.rows (put_new g.row.K-Key.alike g.row.K-Key.equal s.rows.now s.used c.requires.dense x c.if-used-self.true absent);
+      put = rw c.link.ensures.rows (put_new g.K.Key.alike g.K.Key.equal s.rows.now s.used c.requires.dense x c.if-used-self.true absent);
       room = ap length c.link.ensures.rows ∙ length-set _ _ _;
     }
 
 pub returns-else-used-self : goal.returns-else-used-self
 returns-else-used-self g c =
     let s = c.args.self.now in
-    let absent = place_absent s.rows.now s.used c.place-of-i.result c.args.key c.place-of-i.ensures c.if-i-used.false in
+    let absent = place_absent s.rows.now s.used c.place_of-i.result c.args.key c.place_of-i.ensures c.if-i-used.false in
     record {
       sound = c.requires;
-      put = put_full g.row.K-Key.alike g.row.K-Key.equal s.rows.now s.used c.requires.dense c.args.key c.args.value c.if-used-self.false absent;
+      put = put_full g.K.Key.alike g.K.Key.equal s.rows.now s.used c.requires.dense c.args.key c.args.value c.if-used-self.false absent;
       room = refl;
     }

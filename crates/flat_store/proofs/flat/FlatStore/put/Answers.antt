@@ -8,27 +8,27 @@ pub returns-then-i-used : goal.returns-then-i-used
 returns-then-i-used g c =
     let s = c.args.self.now in
     record {
-      sound = over_dense g.row.K-Key.alike g.row.K-Key.equal s.rows.now s.used c.requires c.place-of-i.result (record { key = c.args.key; value = c.args.value }) c.if-i-used.true c.place-of-i.ensures;
-      put = put_over g.row.K-Key.alike g.row.K-Key.equal s.rows.now s.used c.requires c.place-of-i.result (record { key = c.args.key; value = c.args.value }) c.if-i-used.true c.place-of-i.ensures _;
+      sound = over_dense g.K.Key.alike g.K.Key.equal s.rows.now s.used c.requires c.place_of-i.result (record { key = c.args.key; value = c.args.value }) c.if-i-used.true c.place_of-i.ensures;
+      put = put_over g.K.Key.alike g.K.Key.equal s.rows.now s.used c.requires c.place_of-i.result (record { key = c.args.key; value = c.args.value }) c.if-i-used.true c.place_of-i.ensures _;
       room = length-set _ _ _;
     }
 
 pub returns-then-used-self : goal.returns-then-used-self
 returns-then-used-self g c =
     let s = c.args.self.now in
-    let absent = place_absent s.rows.now s.used c.place-of-i.result c.args.key c.place-of-i.ensures c.if-i-used.false in
+    let absent = place_absent s.rows.now s.used c.place_of-i.result c.args.key c.place_of-i.ensures c.if-i-used.false in
     record {
-      sound = new_dense g.row.K-Key.alike g.row.K-Key.equal s.rows.now s.used c.requires (record { key = c.args.key; value = c.args.value }) c.if-used-self.true absent;
-      put = put_new g.row.K-Key.alike g.row.K-Key.equal s.rows.now s.used c.requires (record { key = c.args.key; value = c.args.value }) c.if-used-self.true absent;
+      sound = new_dense g.K.Key.alike g.K.Key.equal s.rows.now s.used c.requires (record { key = c.args.key; value = c.args.value }) c.if-used-self.true absent;
+      put = put_new g.K.Key.alike g.K.Key.equal s.rows.now s.used c.requires (record { key = c.args.key; value = c.args.value }) c.if-used-self.true absent;
       room = length-set _ _ _;
     }
 
 pub returns-else-used-self : goal.returns-else-used-self
 returns-else-used-self g c =
     let s = c.args.self.now in
-    let absent = place_absent s.rows.now s.used c.place-of-i.result c.args.key c.place-of-i.ensures c.if-i-used.false in
+    let absent = place_absent s.rows.now s.used c.place_of-i.result c.args.key c.place_of-i.ensures c.if-i-used.false in
     record {
       sound = c.requires;
-      put = put_full g.row.K-Key.alike g.row.K-Key.equal s.rows.now s.used c.requires c.args.key c.args.value c.if-used-self.false absent;
+      put = put_full g.K.Key.alike g.K.Key.equal s.rows.now s.used c.requires c.args.key c.args.value c.if-used-self.false absent;
       room = refl;
     }

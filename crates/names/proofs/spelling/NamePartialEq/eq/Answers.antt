@@ -5,8 +5,8 @@ use Rattle.names.specs.Spelling.{spelling}
 use Rattle.names.proofs.Spelled.{same_name}
 use Rattle.names.proofs.spelling.NamePartialEq.eq.Goals as goal
 
-pub returns : goal.returns
-returns c =
+pub returns-clause-equal : goal.returns-clause-equal
+returns-clause-equal c =
     let e = c.octets.ensures in
     let f = c.octets-2.ensures in
     Decides-like c.eq.result (λ p. same_name c.args.self.now c.args.other.now (sym e ∙ p ∙ f)) (λ p. e ∙ ap spelling p ∙ sym f)
