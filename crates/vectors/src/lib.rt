@@ -1,4 +1,6 @@
 // Messages of another implementation, and small examples, as tests.
+#![tactic(auto)]
+
 use diameter_writer::{Avp, MessageFields};
 
 // An update CC-Request as the Diameter codec of Erlang/OTP 25 encodes it.
