@@ -1,4 +1,6 @@
 // Diameter framing: a reader that walks a message in place, and shows every AVP to a visitor.
+#![tactic(auto)]
+
 mod cursor;
 mod entry;
 mod framing;

@@ -1,4 +1,6 @@
 // The headers of Diameter messages and AVPs, and what an AVP is where.
+#![tactic(auto)]
+
 mod headers;
 mod octets;
 mod place;
