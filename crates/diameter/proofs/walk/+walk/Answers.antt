@@ -9,32 +9,32 @@ use Rattle.diameter.proofs.walk.+walk.Given.{Over}
 use Rattle.diameter.proofs.walk.+walk.Goals as goal
 use Rattle.diameter.proofs.walk.+walk.Goals.{In-Some}
 
-told_here : (g : Over) (t : ℕ) (c : In-Some g t) → Told g.P.Place.kinds c.args.place c.args.parent c.args.message.now c.loop-entry.cursor c.read-avp.new.cursor c.in-Some.entry c.in-Some.item
-told_here g t c = read_some g.P.Place.kinds c.args.place c.args.parent c.args.message.now c.loop-entry.cursor c.read-avp.new.cursor _ c.in-Some.entry c.in-Some.item c.in-Some.is c.in-ok-entry.ensures
+told_here : (g : Over) (t : ℕ) (c : In-Some g t) → Told g.P.Place.kinds c.args.place c.args.parent c.args.message.now c.loop-entry.cursor c.read_avp.new.cursor c.in-Some.entry c.in-Some.item
+told_here g t c = read_some g.P.Place.kinds c.args.place c.args.parent c.args.message.now c.loop-entry.cursor c.read_avp.new.cursor _ c.in-Some.entry c.in-Some.item c.in-Some.is c.in_ok-entry.ensures
 
 -- where the AVP lies, and how deep a group is
-lies_here : (g : Over) (t : ℕ) (c : In-Some g t) → Lies c.loop-entry.cursor c.read-avp.new.cursor c.in-Some.entry c.args.message.now
-lies_here g t c = told_lies g.P.Place.kinds g.P.Place.rank c.args.place c.args.parent c.args.message.now c.loop-entry.cursor c.read-avp.new.cursor c.loop-entry.invariant.within c.in-Some.entry c.in-Some.item (told_here g t c)
+lies_here : (g : Over) (t : ℕ) (c : In-Some g t) → Lies c.loop-entry.cursor c.read_avp.new.cursor c.in-Some.entry c.args.message.now
+lies_here g t c = told_lies g.P.Place.kinds g.P.Place.rank c.args.place c.args.parent c.args.message.now c.loop-entry.cursor c.read_avp.new.cursor c.loop-entry.invariant.within c.in-Some.entry c.in-Some.item (told_here g t c)
 
 kind_here : (g : Over) (t : ℕ) (c : In-Some g t) → c.in-Some.entry.kind ≡ g.P.Place.kinds c.args.place c.in-Some.entry.code c.in-Some.entry.vendor
-kind_here g t c = told_kind g.P.Place.kinds g.P.Place.rank c.args.place c.args.parent c.args.message.now c.loop-entry.cursor c.read-avp.new.cursor c.loop-entry.invariant.within c.in-Some.entry c.in-Some.item (told_here g t c)
+kind_here g t c = told_kind g.P.Place.kinds g.P.Place.rank c.args.place c.args.parent c.args.message.now c.loop-entry.cursor c.read_avp.new.cursor c.loop-entry.invariant.within c.in-Some.entry c.in-Some.item (told_here g t c)
 
 pub loop-entry-init : goal.loop-entry-init
 loop-entry-init g t c = record { within = c.requires; end = refl; goes = λ r w s. s }
 
-pub read-avp-requires : goal.read-avp-requires
-read-avp-requires g t c = c.loop-entry.invariant.within
+pub read_avp-requires : goal.read_avp-requires
+read_avp-requires g t c = c.loop-entry.invariant.within
 
-pub returns-in-err-entry : goal.returns-in-err-entry
-returns-in-err-entry g t c =
-    let p = err_from_is_err_and c.from-residual.result c.from-residual.ensures.1 in
-    let bad = c.in-err-entry.ensures in
+pub returns-in_err-entry : goal.returns-in_err-entry
+returns-in_err-entry g t c =
+    let p = err_from_is_err_and c.from_residual.result c.from_residual.ensures.1 in
+    let bad = c.in_err-entry.ensures in
     let i = c.loop-entry.invariant in
     record {
       shown = subst (λ r. Shown g.V.Visitor.shows c.args.visitor.now (ahead g.P.Place.kinds g.P.Place.rank c.args.place c.args.parent c.args.message.now c.args.cursor.now) r c.loop-entry.visitor) (sym (p.1 ∙ ap Err p.2)) (broke _ _ _ _ _ _ _ _ _ _ _ i _ bad);
       end = ap (λ x. x.end) bad.same ∙ i.end;
       within = subst (Within c.args.message.now) (sym bad.same) i.within;
-      all = made_err c.from-residual.result _ _ p.1;
+      all = made_err c.from_residual.result _ _ p.1;
     }
 
 pub returns-in-Err : goal.returns-in-Err
@@ -57,19 +57,19 @@ walk-requires g t c κs within =
     let deep = g.met.P.Place.falls c.args.place c.in-Group.inner _ _ (sym (kind_here g t here) ∙ c.in-Group.is) in
     search rules
 
-pub returns-in-err-walk : goal.returns-in-err-walk
-returns-in-err-walk g t c =
-    let p = err_from_is_err_and c.from-residual-in-err-walk.result c.from-residual-in-err-walk.ensures.1 in
-    let here = (goal.at.returns-in-err-walk g t c).In-Some in
+pub returns-in_err-walk : goal.returns-in_err-walk
+returns-in_err-walk g t c =
+    let p = err_from_is_err_and c.from_residual-in_err-walk.result c.from_residual-in_err-walk.ensures.1 in
+    let here = (goal.at.returns-in_err-walk g t c).In-Some in
     let told = told_here g t here in
     let lies = lies_here g t here in
     let deep = g.met.P.Place.falls c.args.place c.in-Group.inner _ _ (sym (kind_here g t here) ∙ c.in-Group.is) in
     let i = c.loop-entry.invariant in
     record {
-      shown = subst (λ r. Shown g.V.Visitor.shows c.args.visitor.now (ahead g.P.Place.kinds g.P.Place.rank c.args.place c.args.parent c.args.message.now c.args.cursor.now) r c.walk.new.visitor) (sym (p.1 ∙ ap Err p.2)) (failed _ _ _ _ _ _ _ _ _ _ _ i c.in-Some.entry c.in-Some.item told _ c.in-Group.inner c.in-Group.is deep _ _ c.in-default-show.ensures c.in-err-walk.ensures.shown);
+      shown = subst (λ r. Shown g.V.Visitor.shows c.args.visitor.now (ahead g.P.Place.kinds g.P.Place.rank c.args.place c.args.parent c.args.message.now c.args.cursor.now) r c.walk.new.visitor) (sym (p.1 ∙ ap Err p.2)) (failed _ _ _ _ _ _ _ _ _ _ _ i c.in-Some.entry c.in-Some.item told _ c.in-Group.inner c.in-Group.is deep _ _ c.in_default-show.ensures c.in_err-walk.ensures.shown);
       end = ap (λ x. x.end) c.drop-inside.ensures ∙ lies.same ∙ i.end;
       within = subst (Within c.args.message.now) (sym c.drop-inside.ensures) lies.within;
-      all = made_err c.from-residual-in-err-walk.result _ _ p.1;
+      all = made_err c.from_residual-in_err-walk.result _ _ p.1;
     }
 
 pub loop-entry-smaller-in-Group : goal.loop-entry-smaller-in-Group
@@ -86,7 +86,7 @@ loop-entry-preserved-in-Group g t c =
     let told = told_here g t here in
     let deep = g.met.P.Place.falls c.args.place c.in-Group.inner _ _ (sym (kind_here g t here) ∙ c.in-Group.is) in
     subst (Going g.P.Place.kinds g.P.Place.rank g.V.Visitor.shows c.args.place c.args.parent c.args.message.now c.args.visitor.now c.args.cursor.now c.walk.new.visitor) (sym c.drop-inside-in-Group.ensures)
-    (entered _ _ _ _ _ _ _ _ _ _ _ c.loop-entry.invariant c.in-Some.entry c.in-Some.item told _ c.in-Group.inner c.in-Group.is deep _ c.in-default-show.ensures c.in-ok-walk.ensures.shown)
+    (entered _ _ _ _ _ _ _ _ _ _ _ c.loop-entry.invariant c.in-Some.entry c.in-Some.item told _ c.in-Group.inner c.in-Group.is deep _ c.in_default-show.ensures c.in_ok-walk.ensures.shown)
 
 pub loop-entry-smaller : goal.loop-entry-smaller
 loop-entry-smaller g t c =
@@ -96,12 +96,12 @@ loop-entry-smaller g t c =
 pub loop-entry-preserved : goal.loop-entry-preserved
 loop-entry-preserved g t c =
     let told = told_here g t (goal.at.loop-entry-preserved g t c).In-Some in
-    passed _ _ _ _ _ _ _ _ _ _ _ c.loop-entry.invariant c.in-Some.entry c.in-Some.item told _ c.in-default-show.ensures c.in-default-kind.not-Group
+    passed _ _ _ _ _ _ _ _ _ _ _ c.loop-entry.invariant c.in-Some.entry c.in-Some.item told _ c.in_default-show.ensures c.in_default-kind.not-Group
 
 pub returns : goal.returns
 returns g t c =
     let i = c.loop-entry.invariant in
-    let ended = read_none g.P.Place.kinds c.args.place c.args.parent c.args.message.now c.loop-entry.cursor c.read-avp.new.cursor _ c.in-default.is c.in-ok-entry.ensures in
+    let ended = read_none g.P.Place.kinds c.args.place c.args.parent c.args.message.now c.loop-entry.cursor c.read_avp.new.cursor _ c.in_default.is c.in_ok-entry.ensures in
     record {
       shown = finished _ _ _ _ _ _ _ _ _ _ _ i ended;
       end = ap (λ x. x.end) ended.same ∙ i.end;

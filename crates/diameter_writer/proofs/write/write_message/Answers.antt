@@ -6,7 +6,7 @@ use Rattle.diameter_writer.proofs.write.write_message.Goals as goal
 
 pub returns : goal.returns
 returns g c =
-    let m = c.in-ok-total.ensures in
+    let m = c.in_ok-total.ensures in
     let f = c.args.fields in
     let avps = c.args.avps.now in
     let small : message_len avps < 2 ^ 24 = omega (arith, m.total, m.small) in
