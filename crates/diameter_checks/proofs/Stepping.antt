@@ -1,10 +1,10 @@
 -- The list keeps its law.
 use Rattle.std.proofs.Common.{◌≡◌, ℕ, suc, ◌+◌, List, [], drop, sym, refl, ap, ◌∙◌}
-use Rattle.diameter_headers.specs.Framing.{Framed, data_of, padded}
+use Rattle.diameter_headers.specs.Framing.{data_of, padded}
 use Rattle.diameter_headers.specs.Headers.{code_of, header_len, length_of, vendor_of}
 use Rattle.diameter_headers.specs.declared.place.Kind.{Kind}
 use Rattle.diameter_headers.specs.declared.place.Kind.TheVariants.{Unknown, Number, Octets, Group}
-use Rattle.diameter.specs.Listing.{Listing, append, entry_at, kind_in, level, listed, listing, members, more}
+use Rattle.diameter.specs.Listing.{append, entry_at, kind_in, level, listed, listing, members, more}
 use Rattle.diameter.specs.Values.{value_of}
 use Rattle.diameter.proofs.Levels.{level_done, level_fault, level_more}
 use Rattle.diameter_checks.specs.Steps.{Steps, part}

@@ -1,4 +1,6 @@
 // Questions that are put to a whole message, whatever it carries: each is a visitor of the walk.
+#![tactic(auto)]
+
 mod framing;
 mod lookup;
 
