@@ -19,7 +19,7 @@ returns c =
     let start : Lines = record { heap = c.args.heap; text = c.args.text } in
     let o = shown_lines l start c.visit_message-end.new.visitor r c.visit_message-end.ensures in
     let ways : (c.match-end.end ≡ r) × (r ≡ Err (fault_at NoSpace 0) → ⊥) = elim c.match-end.branch [
-      | in-Err+else-eq w ↦ (w.end-is ∙ sym w.in-Err.is, λ e. other_is_enough w.in-Err.fault (fault_at NoSpace 0) (λ x. true_not_false (sym (w.eq.ensures.1 x) ∙ w.if-eq.false)) (sym w.in-Err.is ∙ e))
+      | in-Err+else-eq w ↦ (w.end-is ∙ sym w.in-Err.is, λ e. other_is_enough w.in-Err.fault (fault_at NoSpace 0) (λ x. true_not_false (sym (w.eq.ensures.equal.1 x) ∙ w.if-eq.false)) (sym w.in-Err.is ∙ e))
       | in_default w ↦ (w.end-is, λ e. ok_is_enough w.in_default.field-0 (fault_at NoSpace 0) (sym w.in_default.is ∙ e))
     ] in
     let there = all_there start c.visit_message-end.new.visitor l r o ways.1 in
