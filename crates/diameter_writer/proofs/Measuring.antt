@@ -1,5 +1,5 @@
 -- What one turn of the measuring loop keeps.
-use Rattle.std.proofs.Common.{◌≡◌, ℕ, ◌+◌, ◌-◌, ◌^◌, ◌<◌, ◌≤◌, true, false, cond, List, [], ◌∷◌, length, get_or, drop, None, sym, refl, ap, ◌∙◌, subst, add-one, arith, length-append, drop-cons}
+use Rattle.std.proofs.Common.{◌≡◌, ℕ, ◌+◌, ◌^◌, ◌<◌, ◌≤◌, true, false, cond, List, [], ◌∷◌, length, get_or, drop, None, sym, refl, ap, ◌∙◌, subst, add-one, arith, length-append, drop-cons}
 use Rattle.std.proofs.lemmas.List.{drop_all}
 use Rattle.diameter_headers.specs.Framing.{padded}
 use Rattle.diameter_headers.specs.declared.place.Kind.{Kind}

@@ -1,5 +1,5 @@
 -- Header and AVPs, one after the other, are the message.
-use Rattle.std.proofs.Common.{◌≡◌, ℕ, ◌+◌, ◌^◌, ◌<◌, ◌≤◌, true, List, ◌++◌, length, drop, refl, ap, ◌∙◌, subst, zero-add, arith, lt-ltb, le-leb}
+use Rattle.std.proofs.Common.{◌≡◌, ℕ, ◌^◌, ◌<◌, ◌≤◌, true, List, ◌++◌, length, drop, refl, ap, ◌∙◌, subst, zero-add, arith, lt-ltb, le-leb}
 use Rattle.diameter_headers.specs.declared.place.Kind.{Kind}
 use Rattle.diameter_writer.specs.Encoding.{encode_avps}
 use Rattle.diameter_writer.specs.Messages.{all_fit, encode_message, header_octets, message_len, writable}

@@ -1,4 +1,6 @@
 // Writes Diameter messages: the octets of header and AVPs, into an output that the caller lends.
+#![tactic(auto)]
+
 mod avp;
 mod measure;
 mod message;

@@ -4,29 +4,29 @@ use Rattle.diameter_writer.specs.Encoding.{length_for}
 use Rattle.diameter_writer.proofs.Measuring.{Counting, item, counted_more, counted_all, too_long, no_fit}
 use Rattle.diameter_writer.proofs.measure.measure.Goals as goal
 
-pub returns-then-not-fits-at : goal.returns-then-not-fits-at
-returns-then-not-fits-at g c = no_fit _ _ _ _ _ c.loop-avp.invariant c.loop-avp-test.true (sym c.fits-at.ensures.value ∙ c.if-not-fits-at.true)
+pub returns-then-not-fits_at : goal.returns-then-not-fits_at
+returns-then-not-fits_at g c = no_fit _ _ _ _ _ c.loop-avp.invariant c.loop-avp-test.true (sym c.fits_at.ensures.value ∙ c.if-not-fits_at.true)
 
-pub returns-then-octets-ge-THREE-OCTET-LIMIT : goal.returns-then-octets-ge-THREE-OCTET-LIMIT
-returns-then-octets-ge-THREE-OCTET-LIMIT g c =
+pub returns-then-octets-ge-THREE_OCTET_LIMIT : goal.returns-then-octets-ge-THREE_OCTET_LIMIT
+returns-then-octets-ge-THREE_OCTET_LIMIT g c =
     let long : 2 ^ 24 ≤ c.loop-avp.total + padded (length_for (item c.args.avps.now c.loop-avp.avp-index)) = omega arith in
     too_long _ _ _ _ _ c.loop-avp.invariant c.loop-avp-test.true long
 
-pub returns-then-total-ge-THREE-OCTET-LIMIT : goal.returns-then-total-ge-THREE-OCTET-LIMIT
-returns-then-total-ge-THREE-OCTET-LIMIT g c =
+pub returns-then-total-ge-THREE_OCTET_LIMIT : goal.returns-then-total-ge-THREE_OCTET_LIMIT
+returns-then-total-ge-THREE_OCTET_LIMIT g c =
     let a = item c.args.avps.now c.loop-avp.avp-index in
-    let len : c.header-len.result + length a.octets.now ≡ length_for a = ap (λ k. k + length a.octets.now) c.header-len.ensures in
+    let len : c.header_len.result + length a.octets.now ≡ length_for a = ap (λ k. k + length a.octets.now) c.header_len.ensures in
     let gap : c.padding.result ≡ padded (length_for a) - length_for a = c.padding.ensures ∙ ap (λ k. padded k - k) len in
-    let long : 2 ^ 24 ≤ c.loop-avp.total + padded (length_for a) = omega (arith, c.if-total-ge-THREE-OCTET-LIMIT.true) in
+    let long : 2 ^ 24 ≤ c.loop-avp.total + padded (length_for a) = omega (arith, c.if-total-ge-THREE_OCTET_LIMIT.true) in
     too_long _ _ _ _ _ c.loop-avp.invariant c.loop-avp-test.true long
 
 pub loop-avp-preserved : goal.loop-avp-preserved
 loop-avp-preserved g c =
     let a = item c.args.avps.now c.loop-avp.avp-index in
-    let len : c.header-len.result + length a.octets.now ≡ length_for a = ap (λ k. k + length a.octets.now) c.header-len.ensures in
+    let len : c.header_len.result + length a.octets.now ≡ length_for a = ap (λ k. k + length a.octets.now) c.header_len.ensures in
     let gap : c.padding.result ≡ padded (length_for a) - length_for a = c.padding.ensures ∙ ap (λ k. padded k - k) len in
-    let next : c.loop-avp.total + (c.header-len.result + length a.octets.now + c.padding.result) ≡ c.loop-avp.total + padded (length_for a) = omega arith in
-    counted_more _ _ _ _ _ c.loop-avp.invariant c.loop-avp-test.true (sym c.fits-at.ensures.value ∙ c.if-not-fits-at.false) c.fits-at.ensures.typed.0 c.fits-at.ensures.typed.1 _ next c.if-total-ge-THREE-OCTET-LIMIT.false
+    let next : c.loop-avp.total + (c.header_len.result + length a.octets.now + c.padding.result) ≡ c.loop-avp.total + padded (length_for a) = omega arith in
+    counted_more _ _ _ _ _ c.loop-avp.invariant c.loop-avp-test.true (sym c.fits_at.ensures.value ∙ c.if-not-fits_at.false) c.fits_at.ensures.typed.0 c.fits_at.ensures.typed.1 _ next c.if-total-ge-THREE_OCTET_LIMIT.false
 
 pub returns : goal.returns
 returns g c =

@@ -13,7 +13,7 @@ returns c =
       wrote = record {
         room = c.requires;
         is =
-            ap (λ ys. take at old ++ (ys ++ drop (at + length part - at) (drop at old))) c.copy-from-slice.ensures.after
+            ap (λ ys. take at old ++ (ys ++ drop (at + length part - at) (drop at old))) c.copy_from_slice.ensures.after
             ∙ ap (λ k. take at old ++ (part ++ drop k (drop at old))) len
             ∙ ap (λ l. take at old ++ (part ++ l)) (drop-drop (length part) at old);
       };

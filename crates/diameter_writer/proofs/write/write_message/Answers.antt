@@ -14,6 +14,6 @@ returns g c =
     let can = writable_is g.P.Place.kinds c.args.place f avps (length c.args.out.now) c.if-fields.false small fits m.fits in
     record {
       value = ap Some (m.total ∙ sym (message_length f avps)) ∙ sym (ap (λ b. cond b (Some (length (encode_message f avps))) None) can);
-      after = wrote_message f avps _ _ _ _ m.total c.put-header.ensures.wrote c.put-avps.ensures;
-      reads = λ _. reads_as g.P.Place.kinds g.P.Place.rank c.args.place f avps c.if-fields.false c.put-header.ensures.typed small m.typed m.fits;
+      after = wrote_message f avps _ _ _ _ m.total c.put_header.ensures.wrote c.put_avps.ensures;
+      reads = λ _. reads_as g.P.Place.kinds g.P.Place.rank c.args.place f avps c.if-fields.false c.put_header.ensures.typed small m.typed m.fits;
     }
