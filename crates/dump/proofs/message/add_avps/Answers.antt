@@ -1,4 +1,5 @@
 use Rattle.std.proofs.Common.{◌≡◌, ◌++◌, Err, vec_items, sym, ◌∙◌}
+use Rattle.std.proofs.lemmas.Bool.{true≢false}
 use Rattle.refusals.specs.Faults.{fault_at}
 use Rattle.refusals.specs.declared.refusal.Refusal.TheVariants.{NoSpace}
 use Rattle.diameter.specs.Listing.{listing}
@@ -7,7 +8,7 @@ use Rattle.dump.specs.Dump.{end_text, lines}
 use Rattle.gx_dictionary.specs.declared.dictionary.Part.TheVariants.{Message}
 use Rattle.dump.specs.declared.message.Lines.{Lines}
 use Rattle.hex_text.proofs.Digits.{chain}
-use Rattle.dump.proofs.Visits.{true_not_false, shown_lines, all_there, ok_is_enough, other_is_enough}
+use Rattle.dump.proofs.Visits.{shown_lines, all_there, ok_is_enough, other_is_enough}
 use Rattle.dump.proofs.message.add_avps.Goals as goal
 use Rattle.dump.proofs.message.add_avps.Goals.{in-Err+else-eq, in_default}
 
@@ -19,7 +20,7 @@ returns c =
     let start : Lines = record { heap = c.args.heap; text = c.args.text } in
     let o = shown_lines l start c.visit_message-end.new.visitor r c.visit_message-end.ensures in
     let ways : (c.match-end.end ≡ r) × (r ≡ Err (fault_at NoSpace 0) → ⊥) = elim c.match-end.branch [
-      | in-Err+else-eq w ↦ (w.end-is ∙ sym w.in-Err.is, λ e. other_is_enough w.in-Err.fault (fault_at NoSpace 0) (λ x. true_not_false (sym (w.eq.ensures.equal.1 x) ∙ w.if-eq.false)) (sym w.in-Err.is ∙ e))
+      | in-Err+else-eq w ↦ (w.end-is ∙ sym w.in-Err.is, λ e. other_is_enough w.in-Err.fault (fault_at NoSpace 0) (λ x. true≢false (sym (w.eq.ensures.equal.1 x) ∙ w.if-eq.false)) (sym w.in-Err.is ∙ e))
       | in_default w ↦ (w.end-is, λ e. ok_is_enough w.in_default.field-0 (fault_at NoSpace 0) (sym w.in_default.is ∙ e))
     ] in
     let there = all_there start c.visit_message-end.new.visitor l r o ways.1 in
