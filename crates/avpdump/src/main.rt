@@ -1,4 +1,6 @@
 // avpdump: reads a Diameter message as hexadecimal text from standard input and shows its header and its AVPs.
+#![tactic(auto)]
+
 use anyhow::anyhow;
 use dump::message_text;
 use hex_text::{HexError, read_hex};

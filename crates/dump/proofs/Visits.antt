@@ -1,5 +1,5 @@
 -- What the visitor that adds lines has added when the walk ends.
-use Rattle.std.proofs.Common.{◌≡◌, ℕ, true, false, ◌⊎◌, ◌++◌, Ok, Err, vec_items, Result, sym, ap, ◌∙◌, inl, inr, ⊎_elim, append-nil, arith, MatchResult}
+use Rattle.std.proofs.Common.{◌≡◌, ◌⊎◌, ◌++◌, Ok, Err, vec_items, Result, sym, ap, ◌∙◌, inl, inr, ⊎_elim, append-nil, MatchResult}
 use Rattle.refusals.specs.Faults.{fault_at}
 use Rattle.refusals.specs.declared.fault.Fault.{Fault}
 use Rattle.refusals.specs.declared.refusal.Refusal.{Refusal}
@@ -37,11 +37,8 @@ shown_lines (more e v l) u w r s = step s.0 u s.1 w e v l r s.2 s.3 (λ t. shown
 pub all_there : (u w : Lines) (l : Listing Part) (r : Result (Unit {0}) Fault) → Outcome u l r w → (r ≡ Err (fault_at NoSpace 0) → ⊥) → (vec_items w.text ≡ vec_items u.text ++ lines l) × (r ≡ framing l)
 all_there u w l r o enough = ⊎_elim (λ out. absurd (enough out)) (λ t. t) o
 
-pub true_not_false : true ≡ false → ⊥
-true_not_false e = let z : ◌≡◌ {A = ℕ} 0 1 = cc in omega arith
-
 pub ok_is_enough : (x : Unit {0}) (f : Fault) → ◌≡◌ {A = Result (Unit {0}) Fault} (Ok x) (Err f) → ⊥
-ok_is_enough x f e = let z : ◌≡◌ {A = ℕ} 0 1 = cc in omega arith
+ok_is_enough x f e = cc
 
 pub other_is_enough : (f g : Fault) → (f.refusal ≡ g.refusal → ⊥) → ◌≡◌ {A = Result (Unit {0}) Fault} (Err f) (Err g) → ⊥
 other_is_enough f g other e = let same : f ≡ g = cc in other (ap (λ x. x.refusal) same)

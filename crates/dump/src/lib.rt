@@ -1,4 +1,6 @@
 // Shows a Diameter message as text.
+#![tactic(auto)]
+
 mod line;
 mod message;
 

@@ -1,5 +1,7 @@
 // Puts the questions of framing to each message of a table on standard input. A line is a name, a space and the octets in
 // hexadecimal.
+#![tactic(auto)]
+
 ghost use Rattle.std.specs.Prelude.{◌≡◌};
 ghost use Rattle.framing_cases.specs.Verdict.{verdict};
 

@@ -1,5 +1,5 @@
 -- What one turn of reading and of writing hexadecimal keeps.
-use Rattle.std.proofs.Common.{◌≡◌, ℕ, ◌+◌, ◌-◌, ◌*◌, ◌/◌, ◌%◌, ◌<◌, ◌≤◌, true, false, cond, List, [], ◌∷◌, ◌++◌, length, get_or, drop, IfSome, is_ok, is_err, Some, None, Ok, Err, Option, Result, sym, refl, ap, ◌∙◌, append_assoc, append-nil, add-one, arith, drop-cons}
+use Rattle.std.proofs.Common.{◌≡◌, ℕ, ◌+◌, ◌*◌, ◌/◌, ◌%◌, ◌<◌, ◌≤◌, true, false, cond, List, [], ◌∷◌, ◌++◌, length, get_or, drop, IfSome, is_ok, is_err, Some, None, Ok, Err, Option, Result, sym, refl, ap, ◌∙◌, append_assoc, append-nil, add-one, drop-cons}
 use Rattle.std.proofs.lemmas.List.{drop_all}
 use Rattle.hex_text.specs.Hex.{digit, digit_then, digit_value, ended, hex_read, hex_text, is_blank, octet_then}
 use Rattle.hex_text.specs.declared.hex.HexError.{HexError}
@@ -12,7 +12,7 @@ left_from l i h = drop-cons l i 0 h ∙ ap (λ n. get_or l i 0 ∷ drop n l) (sy
 -- what a push that succeeded leaves
 pub grew : {A B X : Type 0} (r : Result A B) (now more was : List X) → is_err r ≡ false → now ≡ cond (is_ok r) more was → now ≡ more
 grew (Ok x) now more was ok is = is
-grew (Err e) now more was ok is = absurd (let z : ◌≡◌ {A = ℕ} 0 1 = cc in omega arith)
+grew (Err e) now more was ok is = cc
 
 pub grew_ok : {A B X : Type 0} (r : Result A B) (x : A) (now more was : List X) → r ≡ Ok x → now ≡ cond (is_ok r) more was → now ≡ more
 grew_ok r x now more was ok is = grew r now more was (ap is_err ok) is

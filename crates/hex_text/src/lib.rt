@@ -1,4 +1,6 @@
 // Octets as hexadecimal text, and back.
+#![tactic(auto)]
+
 mod hex;
 
 pub use hex::{HexError, push_hex, read_hex};

@@ -1,4 +1,6 @@
 // Messages of another implementation, and small examples, as tests.
+#![tactic(auto)]
+
 use diameter_writer::{Avp, MessageFields};
 
 // An update CC-Request as the Diameter codec of Erlang/OTP 25 encodes it.
@@ -93,7 +95,7 @@ mod tests {
             Some(168)
         );
         assert!(rt; &out[0..168] == UPDATE_REQUEST);
-        assert!(rt; &out[168..176] == &[0xffu8; 8]);
+        assert!(rt; &out[168..176] == [0xffu8; 8].as_slice());
     }
 
     #[test]
@@ -114,7 +116,9 @@ mod tests {
         let Ok(Some((session, Item::Octets(text)))) = reader.next(Part::Message) else {
             return Err(Fail::new("no Session-Id"));
         };
-        assert!(rt; session.code == 263 && session.offset == 20 && text == b"gateway.example;1;7");
+        assert!(rt;
+            session.code == 263 && session.offset == 20 && text == b"gateway.example;1;7".as_slice()
+        );
         let Ok(Some((application, Item::Number(number)))) = reader.next(Part::Message) else {
             return Err(Fail::new("no Auth-Application-Id"));
         };
@@ -130,7 +134,7 @@ mod tests {
             write_message(Part::Message, UPDATE_FIELDS, &avps, &mut out),
             None
         );
-        assert!(rt; &out[0..167] == &[0xffu8; 167]);
+        assert!(rt; &out[0..167] == [0xffu8; 167].as_slice());
     }
 
     #[test]
@@ -156,7 +160,7 @@ mod tests {
         )?;
         assert!(rt;
             text.as_slice()
-                == b"version 1 length 36 of 35 command 272 flags 0x40\napplication 16777224 hop-by-hop 1 end-to-end 2\nfault at 0: the header says 36 octets, the message has 35 (refusal 7, Diameter code 5015)\n20: code 263 vendor 0 flags 0x40 \"s;1\"\nfault at 32: the AVP does not fit, does not cover its header, or is a number without four octets (refusal 12, Diameter code 5014)\n"
+                == b"version 1 length 36 of 35 command 272 flags 0x40\napplication 16777224 hop-by-hop 1 end-to-end 2\nfault at 0: the header says 36 octets, the message has 35 (refusal 7, Diameter code 5015)\n20: code 263 vendor 0 flags 0x40 \"s;1\"\nfault at 32: the AVP does not fit, does not cover its header, or is a number without four octets (refusal 12, Diameter code 5014)\n".as_slice()
         );
         Ok(())
     }

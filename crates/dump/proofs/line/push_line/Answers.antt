@@ -8,11 +8,11 @@ pub returns : goal.returns
 unfolding line_of
 returns c =
     let t0 = vec_items c.args.text.now in
-    let t1 = vec_items c.push-head.new.text in
+    let t1 = vec_items c.push_head.new.text in
     let t2 = vec_items c.push.new.text in
-    let t3 = vec_items c.push-value.new.text in
+    let t3 = vec_items c.push_value.new.text in
     let t4 = vec_items c.push-2.new.text in
     let v = value_text (held c.args.item) in
     let blank = codes " " in
-    chain t0 (head_of c.args.entry.now) t1 (blank ++ (v ++ 10 ∷ [])) t4 c.in-ok-push-head.ensures
-    (chain t1 blank t2 (v ++ 10 ∷ []) t4 c.in-ok-push.ensures (chain t2 v t3 (10 ∷ []) t4 c.in-ok-push-value.ensures c.in-ok-push-2.ensures))
+    chain t0 (head_of c.args.entry.now) t1 (blank ++ (v ++ 10 ∷ [])) t4 c.in_ok-push_head.ensures
+    (chain t1 blank t2 (v ++ 10 ∷ []) t4 c.in_ok-push.ensures (chain t2 v t3 (10 ∷ []) t4 c.in_ok-push_value.ensures c.in_ok-push-2.ensures))

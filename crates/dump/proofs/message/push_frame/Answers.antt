@@ -9,10 +9,10 @@ returns c =
     let h = c.args.header in
     let t0 = vec_items c.args.text.now in
     let t1 = vec_items c.push.new.text in
-    let t2 = vec_items c.push-hex.new.text in
+    let t2 = vec_items c.push_hex.new.text in
     let t3 = vec_items c.push-2.new.text in
-    let b = c.as-bytes.result.now in
+    let b = c.as_bytes.result.now in
     let flags = hex_text (h.flags ∷ []) in
-    let fields : b ≡ frame_text h.version h.length c.args.octets h.command = c.as-bytes.ensures.value ∙ c.in-ok-fields.ensures in
-    chain t0 b t1 (flags ++ 10 ∷ []) t3 c.in-ok-push.ensures (chain t1 flags t2 (10 ∷ []) t3 c.in-ok-push-hex.ensures c.in-ok-push-2.ensures)
+    let fields : b ≡ frame_text h.version h.length c.args.octets h.command = c.as_bytes.ensures.value ∙ c.in_ok-fields.ensures in
+    chain t0 b t1 (flags ++ 10 ∷ []) t3 c.in_ok-push.ensures (chain t1 flags t2 (10 ∷ []) t3 c.in_ok-push_hex.ensures c.in_ok-push-2.ensures)
     ∙ ap (λ l. t0 ++ (l ++ (flags ++ 10 ∷ []))) fields

@@ -5,5 +5,5 @@ use Rattle.dump.proofs.message.push_text.Goals as goal
 pub returns : goal.returns
 returns c =
     let t0 = vec_items c.args.text.now in
-    chain t0 c.as-bytes.result.now (vec_items c.push.new.text) (10 ∷ []) (vec_items c.push-2.new.text) c.in-ok-push.ensures c.in-ok-push-2.ensures
-    ∙ ap (λ l. t0 ++ (l ++ 10 ∷ [])) c.as-bytes.ensures.value
+    chain t0 c.as_bytes.result.now (vec_items c.push.new.text) (10 ∷ []) (vec_items c.push-2.new.text) c.in_ok-push.ensures c.in_ok-push-2.ensures
+    ∙ ap (λ l. t0 ++ (l ++ 10 ∷ [])) c.as_bytes.ensures.value

@@ -1,24 +1,24 @@
 use Rattle.std.proofs.Common.{◌+◌, vec_items, sym, ◌∙◌, subst}
 use Rattle.hex_text.proofs.Digits.{Reading, blank_more, no_digit, first_half, second_half, read_whole, read_half, grew}
 use Rattle.hex_text.proofs.hex.read_hex.Goals as goal
-use Rattle.hex_text.proofs.hex.read_hex.Goals.{in-None, in-Some-half+else-is-err}
+use Rattle.hex_text.proofs.hex.read_hex.Goals.{in-None, in-Some-half+else-is_err}
 
-pub loop-at-preserved-then-is-blank : goal.loop-at-preserved-then-is-blank
-loop-at-preserved-then-is-blank c = blank_more _ _ _ _ c.loop-at.invariant c.loop-at-test.true (sym c.is-blank.ensures ∙ c.if-is-blank.true)
+pub loop-at-preserved-then-is_blank : goal.loop-at-preserved-then-is_blank
+loop-at-preserved-then-is_blank c = blank_more _ _ _ _ c.loop-at.invariant c.loop-at-test.true (sym c.is_blank.ensures ∙ c.if-is_blank.true)
 
-pub returns-in-default : goal.returns-in-default
-returns-in-default c = no_digit _ _ _ _ c.loop-at.invariant c.loop-at-test.true (sym c.is-blank.ensures ∙ c.if-is-blank.false) c.in-default.ensures.value
+pub returns-in_default : goal.returns-in_default
+returns-in_default c = no_digit _ _ _ _ c.loop-at.invariant c.loop-at-test.true (sym c.is_blank.ensures ∙ c.if-is_blank.false) c.in_default.ensures.value
 
 pub loop-at-preserved : goal.loop-at-preserved
 loop-at-preserved c =
     let text = c.args.text.now in
     let next = c.loop-at.at + 1 in
     let here = c.loop-at-test.true in
-    let no-blank = sym c.is-blank.ensures ∙ c.if-is-blank.false in
+    let no-blank = sym c.is_blank.ensures ∙ c.if-is_blank.false in
     let digit = c.in-Some.ensures in
     elim c.match-half.branch [
       | in-None w ↦ subst (λ o. Reading text (vec_items o) c.match-half.half next) (sym w.octets-is) (subst (λ h. Reading text (vec_items c.loop-at.octets) h next) (sym w.half-is) (first_half _ _ _ _ c.loop-at.invariant here no-blank c.in-Some.digit digit.value digit.small w.in-None.is))
-      | in-Some-half+else-is-err w ↦ subst (λ o. Reading text (vec_items o) c.match-half.half next) (sym w.octets-is) (subst (λ h. Reading text (vec_items w.push.new.self) h next) (sym w.half-is) (second_half _ _ _ _ c.loop-at.invariant here no-blank c.in-Some.digit w.in-Some-half.high digit.value w.in-Some-half.is _ (grew w.push.result _ _ _ (sym w.is-err.ensures.value ∙ w.if-is-err.false) w.push.ensures.items)))
+      | in-Some-half+else-is_err w ↦ subst (λ o. Reading text (vec_items o) c.match-half.half next) (sym w.octets-is) (subst (λ h. Reading text (vec_items w.push.new.self) h next) (sym w.half-is) (second_half _ _ _ _ c.loop-at.invariant here no-blank c.in-Some.digit w.in-Some-half.high digit.value w.in-Some-half.is _ (grew w.push.result _ _ _ (sym w.is_err.ensures.value ∙ w.if-is_err.false) w.push.ensures.items)))
     ]
 
 pub returns-in-None-half : goal.returns-in-None-half
