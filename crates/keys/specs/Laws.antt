@@ -1,9 +1,9 @@
 -- The laws of both kinds of key: they are alike exactly when they are equal, and then hash alike. They are proved here, where the keys can name them.
-use Rattle.std.specs.Prelude.{◌≡◌, true, ◌&&◌, Decides, ◌==◌, refl}
-use Rattle.std.proofs.Common.{ap, subst}
+use Rattle.std.specs.Prelude.{◌≡◌, Bool, true, ◌&&◌, Decides, ◌==◌, refl}
+use Rattle.std.proofs.Common.{sym, ap, subst, ◌∙◌}
 use Rattle.std.proofs.lemmas.Bool.{false≢true}
 use Rattle.std.proofs.lemmas.Slice.Eq.{bytes_eq-Decides}
-use Rattle.std.proofs.lemmas.Bool.Decides.{Decides-and, Decides-like, Decides-eqb}
+use Rattle.std.proofs.lemmas.Bool.Decides.{Decides-and, Decides-like, Decides-eqb, same_from_decides}
 use Rattle.names.specs.Spelling.{spelling}
 use Rattle.names.specs.declared.name.Name.{Name}
 use Rattle.names.proofs.Spelled.{same_name}
@@ -15,6 +15,14 @@ use Rattle.keys.specs.declared.rule.RuleKey.{RuleKey}
 
 name_equal : (x y : Name) → Decides (like_name x y) (x ≡ y)
 name_equal x y = Decides-like (like_name x y) (same_name x y) (ap spelling) (bytes_eq-Decides (spelling x) (spelling y))
+
+-- a test that decides equality is the one defined
+pub names_alike : (x y : Name) (r : Bool) → Decides r (x ≡ y) → r ≡ like_name x y
+names_alike x y r d = same_from_decides r (like_name x y) d (name_equal x y)
+
+-- a part more that is alike
+pub also : (part r rest : Bool) → part ≡ true → r ≡ rest → r ≡ (part && rest)
+also part r rest p e = e ∙ sym (ap (λ b. b && rest) p)
 
 kind_alike : (x y : NameKind) → like_kind x y ≡ true → x ≡ y
 kind_alike Rule Rule e = refl

@@ -24,8 +24,7 @@ impl<
 > Pair<K, A, B> {
     // Two stores without a key and of the same room are in step.
     pub fn new(one: A, other: B) -> Self
-        requires sound_one { A.Store.sound one }
-        requires sound_other { B.Store.sound other }
+        requires { (A.Store.sound one) × (B.Store.sound other) }
         ensures { Empty (A.Store.holds one) → Empty (B.Store.holds other) → A.Store.most one ≡ B.Store.most other → InStep A.Store.sound A.Store.holds A.Store.most B.Store.sound B.Store.holds B.Store.most result }
     {
         Pair { one, other }
