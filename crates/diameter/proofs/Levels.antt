@@ -1,7 +1,7 @@
 -- The list of some octets, one AVP at a time.
-use Rattle.std.proofs.Common.{◌≡◌, ℕ, zero, suc, ◌+◌, ◌-◌, ◌<◌, ◌≤◌, Bool, true, false, cond, leb, List, [], ◌∷◌, length, drop, sym, refl, ap, ◌∙◌, ⊎_elim, add-zero, arith, le-leb, leb-true}
+use Rattle.std.proofs.Common.{◌≡◌, ℕ, zero, suc, ◌+◌, ◌-◌, ◌<◌, ◌≤◌, true, false, cond, List, [], ◌∷◌, length, drop, sym, refl, ap, ◌∙◌, ⊎_elim, add-zero, arith, le-leb, leb-true}
 use Rattle.std.proofs.lemmas.Bool.{and_parts, cases_Bool}
-use Rattle.diameter_headers.specs.Framing.{framed, Framed, padded, fitting, data_of}
+use Rattle.diameter_headers.specs.Framing.{framed, Framed, padded, data_of}
 use Rattle.diameter_headers.specs.Headers.{length_of, header_len, plain}
 use Rattle.diameter.specs.Listing.{Listing, done, fault, more, append, members, kind_in, entry_at, level}
 use Rattle.diameter.specs.Values.{value_of}

@@ -19,11 +19,8 @@ fn frame<P: Place>(place: P, part: &[u8]) -> Option<(AvpHeader, Kind<P>)>
         return None;
     }
     let kind = place.kind_of(header.code, header.vendor);
-    if kind.fits(header.length - header.header) {
-        Some((header, kind))
-    } else {
-        None
-    }
+    kind.fits(header.length - header.header)
+        .then_some((header, kind))
 }
 
 // What an AVP's data is: no octet is copied.
@@ -33,8 +30,8 @@ fn item_of<P: Copy>(kind: Kind<P>, data: &[u8]) -> Item<'_>
 {
     match kind {
         Kind::Number => match data {
-            [a, b, c, d] => Item::Number(number4(*a, *b, *c, *d)),
-            _ => unreachable(),
+            &[a, b, c, d] => Item::Number(number4(a, b, c, d)),
+            _ => unreachable!(),
         },
         Kind::Group(_) => Item::Group(data),
         Kind::Unknown | Kind::Octets => Item::Octets(data),
