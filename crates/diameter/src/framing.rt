@@ -41,7 +41,10 @@ fn item_of<P: Copy>(kind: Kind<P>, data: &[u8]) -> Item<'_>
 
 impl<'a, P: Place> Site<'a, P> {
     // The AVP at the cursor, which then stands after it; none at the end.
-    pub(crate) fn read_avp(&self, cursor: &mut Cursor) -> Result<Option<(Entry<P>, Item<'a>)>, Fault>
+    pub(crate) fn read_avp(
+        &self,
+        cursor: &mut Cursor,
+    ) -> Result<Option<(Entry<P>, Item<'a>)>, Fault>
         requires { Within self.now.message.now cursor.old }
         ensures { Read P.Place.kinds self.now.place self.now.parent self.now.message.now cursor.old cursor.new result }
     {

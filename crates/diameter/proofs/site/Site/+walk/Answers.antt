@@ -1,4 +1,4 @@
-use Rattle.std.proofs.Common.{◌≡◌, ℕ, Err, sym, refl, ap, ◌∙◌, subst, arith, rules}
+use Rattle.std.proofs.Common.{◌≡◌, ℕ, Err, sym, ap, ◌∙◌, subst, arith, rules}
 use Rattle.std.proofs.lemmas.Result.{err_from_is_err_and}
 use Rattle.diameter.specs.Reading.{Within, Told, ahead}
 use Rattle.diameter.specs.Visiting.{Shown}
@@ -18,12 +18,6 @@ lies_here g t c = told_lies g.P.Place.kinds g.P.Place.rank c.args.self.now.place
 
 kind_here : (g : Over) (t : ℕ) (c : In-Some g t) → c.in-Some.entry.kind ≡ g.P.Place.kinds c.args.self.now.place c.in-Some.entry.code c.in-Some.entry.vendor
 kind_here g t c = told_kind g.P.Place.kinds g.P.Place.rank c.args.self.now.place c.args.self.now.parent c.args.self.now.message.now c.loop-entry.cursor c.read_avp.new.cursor c.loop-entry.invariant.within c.in-Some.entry c.in-Some.item (told_here g t c)
-
-pub loop-entry-init : goal.loop-entry-init
-loop-entry-init g t c = record { within = c.requires; end = refl; goes = λ r w s. s }
-
-pub read_avp-requires : goal.read_avp-requires
-read_avp-requires g t c = c.loop-entry.invariant.within
 
 pub returns-in_err-entry : goal.returns-in_err-entry
 returns-in_err-entry g t c =
