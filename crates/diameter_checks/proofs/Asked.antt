@@ -1,5 +1,6 @@
 -- What the visitors of this crate find in the list that they were shown.
 use Rattle.std.proofs.Common.{◌≡◌, Bool, true, false, cond, Some, None, Ok, Err, Option, Result, refl, ap, ◌∙◌, subst}
+use Rattle.std.proofs.lemmas.Result.{MatchResult-at_ok}
 use Rattle.std.specs.Option.{option_or}
 use Rattle.refusals.specs.Faults.{fault_at}
 use Rattle.refusals.specs.declared.fault.Fault.{Fault}
@@ -10,7 +11,6 @@ use Rattle.diameter.specs.Values.{Value}
 use Rattle.diameter.specs.Visiting.{Shown}
 use Rattle.diameter.specs.declared.entry.Entry.{Entry}
 use Rattle.diameter_checks.specs.declared.lookup.First.{First}
-use Rattle.diameter.proofs.Shows.{cases_ok}
 
 -- a visitor that lets every AVP pass and goes on as `after` says
 module _ {P V : Type 0} (after : V → Entry P → Value → V) where
@@ -20,7 +20,7 @@ module _ {P V : Type 0} (after : V → Entry P → Value → V) where
   -- it was shown the rest of the list after the first AVP
   passes_more : (u : V) (e : Entry P) (v : Value) (l : Listing P) (r : Result (Unit {0}) Fault) (w : V) → Shown Passes u (more e v l) r w → Shown Passes (after u e v) l r w
   unfolding Shown
-  passes_more u e v l r w s = subst (λ x. Shown Passes x l r w) s.2.1 (cases_ok s.0 tt (Shown Passes s.1 l r w) (λ refusal. (r ≡ Err (fault_at refusal e.offset)) × (w ≡ s.1)) s.2.0 s.3)
+  passes_more u e v l r w s = subst (λ x. Shown Passes x l r w) s.2.1 (MatchResult-at_ok (λ _. Shown Passes s.1 l r w) (λ refusal. (r ≡ Err (fault_at refusal e.offset)) × (w ≡ s.1)) tt s.2.0 s.3)
 
   -- it stops only where the framing does
   pub shown_framing : (l : Listing P) (u : V) (r : Result (Unit {0}) Fault) (w : V) → Shown Passes u l r w → r ≡ framing l
