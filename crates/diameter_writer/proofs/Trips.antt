@@ -1,8 +1,8 @@
 -- What is written is read again.
-use Rattle.std.proofs.Common.{◌≡◌, ℕ, ◌+◌, ◌-◌, ◌*◌, ◌/◌, ◌%◌, ◌^◌, ◌<◌, Bool, true, false, cond, not, eqb, leb, List, [], ◌∷◌, ◌++◌, length, get_or, take, drop, replicate, is_some, Some, None, Option, unwrap_or, sym, refl, ap, ◌∙◌, append_assoc, mod-eq_of_lt, arith, length-append, le-leb}
+use Rattle.std.proofs.Common.{◌≡◌, ℕ, ◌+◌, ◌-◌, ◌/◌, ◌%◌, ◌^◌, ◌<◌, Bool, true, false, cond, not, eqb, leb, List, [], ◌∷◌, ◌++◌, length, get_or, take, drop, replicate, is_some, Some, None, Option, unwrap_or, sym, refl, ap, ◌∙◌, append_assoc, arith, length-append, le-leb}
 use lib.Bits.{bit_and}
 use Rattle.std.proofs.lemmas.Bool.{and_parts}
-use Rattle.std.proofs.lemmas.Nat.{shr-shr, div-add-mod'}
+use Rattle.std.proofs.lemmas.Nat.{from_be_bytes-to_be_bytes_4}
 use Rattle.std.proofs.lemmas.List.{take_at, drop_at}
 use Rattle.diameter_headers.specs.Framing.{Framed, padded, fitting}
 use Rattle.diameter_headers.specs.Headers as read
@@ -20,17 +20,8 @@ use Rattle.diameter_writer.specs.declared.message.MessageFields.{MessageFields}
 use Rattle.diameter_writer.proofs.Measuring.{encodes_more}
 use Rattle.diameter_writer.proofs.Writes.{encode_length}
 
-joined : (n q1 q2 q3 r0 r1 r2 r3 : ℕ) → q1 * 256 + r0 ≡ n → q2 * 256 + r1 ≡ q1 → q3 * 256 + r2 ≡ q2 → r3 ≡ q3 → be4 r3 r2 r1 r0 ≡ n
-joined n q1 q2 q3 r0 r1 r2 r3 a b c d = omega arith
-
 be4_quad : (n : ℕ) → n < 2 ^ 32 → be4 (n / 16777216 % 256) (n / 65536 % 256) (n / 256 % 256) (n % 256) ≡ n
-be4_quad n h =
-    let below : n / 16777216 < 256 = omega arith in
-    joined n (n / 256) (n / 65536) (n / 16777216) (n % 256) (n / 256 % 256) (n / 65536 % 256) (n / 16777216 % 256)
-    (div-add-mod' n 256)
-    (ap (λ x. x * 256 + n / 256 % 256) (sym (shr-shr n 8 8)) ∙ div-add-mod' (n / 256) 256)
-    (ap (λ x. x * 256 + n / 65536 % 256) (sym (shr-shr n 16 8)) ∙ div-add-mod' (n / 65536) 256)
-    (mod-eq_of_lt below)
+be4_quad n h = omega (arith, from_be_bytes-to_be_bytes_4 n h)
 
 be3_triple : (n : ℕ) → n < 2 ^ 24 → be3 (n / 65536 % 256) (n / 256 % 256) (n % 256) ≡ n
 be3_triple n h = omega arith
