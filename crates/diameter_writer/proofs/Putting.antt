@@ -1,5 +1,5 @@
 -- What one turn of the writing loop keeps.
-use Rattle.std.proofs.Common.{◌≡◌, ℕ, ◌+◌, ◌^◌, ◌<◌, ◌≤◌, List, length, drop, sym, ap, ◌∙◌, subst, arith}
+use Rattle.std.proofs.Common.{◌≡◌, ℕ, ◌+◌, ◌<◌, ◌≤◌, List, length, drop, sym, ap, ◌∙◌, subst, arith}
 use Rattle.std.proofs.lemmas.List.{drop_all}
 use Rattle.diameter_headers.specs.Framing.{padded}
 use Rattle.diameter_writer.specs.Encoding.{encode_avp, encode_avps, length_for}
@@ -13,7 +13,6 @@ module _ (start : Output) (avps : List Avp) where
   -- i AVPs are written: to write the rest completes them
   pub record Putting (now : Output) (i : ℕ) : Type 0 where
     pub room : now.end + length (encode_avps (drop i avps)) ≤ length now.octets.now
-    pub small : length (encode_avps (drop i avps)) < 2 ^ 24
     pub goes : (new : Output) → Put now (encode_avps (drop i avps)) new → Put start (encode_avps avps) new
 
   module _ (now : Output) (i : ℕ) (t : Putting now i) (inside : i < length avps) where
@@ -23,14 +22,10 @@ module _ (start : Output) (avps : List Avp) where
     pub item_room : now.end + padded (length_for (item avps i)) ≤ length now.octets.now
     item_room = omega (arith, rest_length, t.room)
 
-    pub item_small : length_for (item avps i) < 2 ^ 24
-    item_small = omega (arith, rest_length, t.small)
-
     pub item_put : (mid : Output) → Put now (encode_avp (item avps i)) mid → Putting mid (i + 1)
     unfolding encode_avps
     item_put mid p = record {
       room = omega (arith, rest_length, t.room, p.end, encode_length (item avps i), wrote_length now.octets.now now.end (encode_avp (item avps i)) mid.octets.now p.wrote);
-      small = omega (arith, rest_length, t.small);
       goes = λ new q. t.goes new (subst (λ l. Put now (encode_avps l) new) (sym (left_from avps i inside)) (put_more now (encode_avp (item avps i)) mid (encode_avps (drop (i + 1) avps)) new p q));
     }
 

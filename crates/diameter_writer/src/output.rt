@@ -1,4 +1,4 @@
-ghost use Rattle.std.specs.Prelude.{◌≡◌, ◌+◌, ◌^◌, ◌<◌, ◌≤◌, length};
+ghost use Rattle.std.specs.Prelude.{◌≡◌, ◌+◌, ◌≤◌, length};
 ghost use Rattle.diameter_headers.specs.Framing.{padded};
 ghost use Rattle.diameter_writer.specs.Encoding.{encode_avp, encode_avps, length_for, vendor_part};
 ghost use Rattle.diameter_writer.specs.Messages.{header_octets};
@@ -50,8 +50,7 @@ impl<'a> Output<'a> {
 
     // Writes an AVP with its padding.
     fn put_avp(&mut self, avp: &Avp)
-        requires room { self.old.end + padded (length_for avp.now) ≤ length self.old.octets.now }
-        requires small { length_for avp.now < 2 ^ 24 }
+        requires { self.old.end + padded (length_for avp.now) ≤ length self.old.octets.now }
         ensures { Put self.old (encode_avp avp.now) self.new }
     {
         let length = avp.length();
@@ -65,8 +64,7 @@ impl<'a> Output<'a> {
 
     // Writes the header of a message of this length.
     pub(crate) fn put_header(&mut self, fields: MessageFields, total: usize)
-        requires room { self.old.end + 20 ≤ length self.old.octets.now }
-        requires small { total < 2 ^ 24 }
+        requires { self.old.end + 20 ≤ length self.old.octets.now }
         ensures { Put self.old (header_octets fields total) self.new }
     {
         let [.., l0, l1, l2] = total.to_be_bytes();
@@ -80,8 +78,7 @@ impl<'a> Output<'a> {
 
     // Writes AVPs one after the other.
     pub(crate) fn put_avps(&mut self, avps: &[Avp])
-        requires room { self.old.end + length (encode_avps avps.now) ≤ length self.old.octets.now }
-        requires small { length (encode_avps avps.now) < 2 ^ 24 }
+        requires { self.old.end + length (encode_avps avps.now) ≤ length self.old.octets.now }
         ensures { Put self.old (encode_avps avps.now) self.new }
     {
         for avp in avps {
