@@ -48,20 +48,12 @@ impl<'a, P: Place> Site<'a, P> {
         requires { Within self.now.message.now cursor.old }
         ensures { Read P.Place.kinds self.now.place self.now.parent self.now.message.now cursor.old cursor.new result }
     {
-        let Site {
-            message,
-            place,
-            parent,
-        } = *self;
-        let Cursor {
-            position: offset,
-            end,
-        } = *cursor;
-        if offset == end {
+        let offset = cursor.position;
+        if offset == cursor.end {
             return Ok(None);
         }
-        let part = &message[offset..end];
-        let Some((avp, kind)) = frame(place, part) else {
+        let part = &self.message[offset..cursor.end];
+        let Some((avp, kind)) = frame(self.place, part) else {
             return Err(Fault::at(Refusal::AvpLength, offset));
         };
         let AvpHeader {
@@ -74,8 +66,8 @@ impl<'a, P: Place> Site<'a, P> {
         let item = item_of(kind, &part[header..length]);
         cursor.position = offset + length + padding(length);
         let entry = Entry {
-            place,
-            parent,
+            place: self.place,
+            parent: self.parent,
             offset,
             code,
             vendor,
