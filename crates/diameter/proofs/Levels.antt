@@ -1,8 +1,7 @@
 -- The list of some octets, one AVP at a time.
-use Rattle.std.proofs.Common.{◌≡◌, ℕ, zero, suc, ◌+◌, ◌-◌, ◌<◌, ◌≤◌, Bool, true, false, cond, leb, List, [], ◌∷◌, length, drop, sym, refl, ap, ◌∙◌, ⊎_elim, add-zero, arith, le-leb, leb-true}
-use borrow.Author.Tests.{lt-leb}
-use Rattle.std.proofs.lemmas.Bool.{cases_lt, cases_Bool}
-use Rattle.diameter_headers.specs.Framing.{framed, Framed, padded, fitting, data_of}
+use Rattle.std.proofs.Common.{◌≡◌, ℕ, zero, suc, ◌+◌, ◌-◌, ◌<◌, ◌≤◌, true, false, cond, List, [], ◌∷◌, length, drop, sym, refl, ap, ◌∙◌, ⊎_elim, add-zero, arith, le-leb, leb-true}
+use Rattle.std.proofs.lemmas.Bool.{and_parts, cases_Bool}
+use Rattle.diameter_headers.specs.Framing.{framed, Framed, padded, data_of}
 use Rattle.diameter_headers.specs.Headers.{length_of, header_len, plain}
 use Rattle.diameter.specs.Listing.{Listing, done, fault, more, append, members, kind_in, entry_at, level}
 use Rattle.diameter.specs.Values.{value_of}
@@ -12,42 +11,22 @@ pub framed_true : {P : Type 0} (k : Kind P) (xs : List ℕ) → Framed k xs → 
 unfolding framed
 framed_true k xs f = simp (le-leb 8 (length xs) f.begun, le-leb (header_len xs) (length_of xs) f.covers, le-leb (padded (length_of xs)) (length xs) f.whole) f.fits
 
-pub framed_false : {P : Type 0} (k : Kind P) (xs : List ℕ) → (Framed k xs → ⊥) → framed k xs ≡ false
-unfolding framed
-framed_false k xs broken =
-    ⊎_elim (λ a. simp (lt-leb 8 (length xs) a))
-    (λ a. ⊎_elim (λ b. simp (le-leb 8 (length xs) a, lt-leb (header_len xs) (length_of xs) b))
-    (λ b. ⊎_elim (λ d. simp (le-leb 8 (length xs) a, le-leb (header_len xs) (length_of xs) b, lt-leb (padded (length_of xs)) (length xs) d))
-    (λ d. ⊎_elim (λ t. absurd (broken (record { begun = a; covers = b; whole = d; fits = t })))
-    (λ t. simp (le-leb 8 (length xs) a, le-leb (header_len xs) (length_of xs) b, le-leb (padded (length_of xs)) (length xs) d) t)
-    (cases_Bool (fitting k (length_of xs - header_len xs))))
-    (cases_lt (length xs) (padded (length_of xs))))
-    (cases_lt (length_of xs) (header_len xs)))
-    (cases_lt (length xs) 8)
-
-pub both_left : (a b : Bool) → cond a b false ≡ true → a ≡ true
-both_left true b t = refl
-both_left false b t = t
-
-pub both_right : (a b : Bool) → cond a b false ≡ true → b ≡ true
-both_right true b t = t
-both_right false b t = absurd (let z : ◌≡◌ {A = ℕ} 0 1 = cc in omega arith)
-
 -- the test tells that the AVP is well framed
 pub framed_is : {P : Type 0} (k : Kind P) (xs : List ℕ) → framed k xs ≡ true → Framed k xs
 unfolding framed
 framed_is k xs t =
-    let b = leb (header_len xs) (length_of xs) in
-    let c = leb (padded (length_of xs)) (length xs) in
-    let d = fitting k (length_of xs - header_len xs) in
-    let t1 = both_right (leb 8 (length xs)) (cond b (cond c d false) false) t in
-    let t2 = both_right b (cond c d false) t1 in
+    let first = and_parts _ _ t in
+    let second = and_parts _ _ first.1 in
+    let third = and_parts _ _ second.1 in
     record {
-      begun = leb-true _ _ (both_left (leb 8 (length xs)) (cond b (cond c d false) false) t);
-      covers = leb-true _ _ (both_left b (cond c d false) t1);
-      whole = leb-true _ _ (both_left c d t2);
-      fits = both_right c d t2;
+      begun = leb-true _ _ first.0;
+      covers = leb-true _ _ second.0;
+      whole = leb-true _ _ third.0;
+      fits = third.1;
     }
+
+framed_false : {P : Type 0} (k : Kind P) (xs : List ℕ) → (Framed k xs → ⊥) → framed k xs ≡ false
+framed_false k xs broken = ⊎_elim (λ t. absurd (broken (framed_is k xs t))) (λ f. f) (cases_Bool (framed k xs))
 
 pub header_least : (xs : List ℕ) → 8 ≤ header_len xs
 header_least xs = elim (plain xs) as (λ b. 8 ≤ cond b 8 12) [ true ↦ omega arith | false ↦ omega arith ]

@@ -1,40 +1,24 @@
 -- What a visitor was shown of one list and then of another.
-use Rattle.std.proofs.Common.{◌≡◌, ℕ, IfOk, Ok, Err, Result, sym, subst, arith, MatchResult}
-use Rattle.refusals.specs.Faults.{fault_at}
+use Rattle.std.proofs.Common.{Ok, Err, Result, subst}
+use Rattle.std.proofs.lemmas.Result.{MatchResult-weaker}
 use Rattle.refusals.specs.declared.fault.Fault.{Fault}
 use Rattle.refusals.specs.declared.refusal.Refusal.{Refusal}
-use Rattle.refusals.specs.declared.refusal.Refusal.TheVariants.{AvpLength}
 use Rattle.diameter.specs.Listing.{Listing, done, fault, more, append}
 use Rattle.diameter.specs.Values.{Value}
 use Rattle.diameter.specs.Visiting.{Shown}
 use Rattle.diameter.specs.declared.entry.Entry.{Entry}
-
-err_not_ok : {A B : Type 0} (a : A) (f : B) → ◌≡◌ {A = Result A B} (Err f) (Ok a) → ⊥
-err_not_ok a f e = let z : ◌≡◌ {A = ℕ} 0 1 = cc in omega arith
-
-pub made_err : {X Y : Type 0} (r : Result X Y) (y : Y) (Q : X → Type 0) → r ≡ Err y → IfOk r Q
-made_err (Ok x) y Q e = absurd (err_not_ok x y (sym e))
-made_err (Err z) y Q e = tt
-
-pub cases_ok : {A B : Type 0} (a : Result A B) (x : A) (P : Type 0) (Q : B → Type 0) → a ≡ Ok x → MatchResult a (λ _. P) Q → P
-cases_ok (Ok y) x P Q e h = h
-cases_ok (Err b) x P Q e h = absurd (err_not_ok x b e)
-
-cases_map : {A B : Type 0} (a : Result A B) {P P' : Type 0} {Q Q' : B → Type 0} → (P → P') → ((b : B) → Q b → Q' b) → MatchResult a (λ _. P) Q → MatchResult a (λ _. P') Q'
-cases_map (Ok x) f g h = f h
-cases_map (Err b) f g h = g b h
 
 module _ {P V : Type 0} (shows : V → Entry P → Value → Result (Unit {0}) Refusal → V → Type 0) where
   -- all of the first list was shown: the second comes next
   pub shown_then : (l k : Listing P) (u x w : V) (r : Result (Unit {0}) Fault) → Shown shows u l (Ok tt) x → Shown shows x k r w → Shown shows u (append l k) r w
   unfolding Shown append
   shown_then done k u x w r s t = subst (λ y. Shown shows y k r w) s.1 t
-  shown_then (fault at) k u x w r s t = absurd (err_not_ok tt (fault_at AvpLength at) (sym s.0))
-  shown_then (more e v l) k u x w r s t = (s.0, s.1, s.2, cases_map s.0 (λ h. shown_then l k s.1 x w r h t) (λ refusal h. absurd (err_not_ok tt (fault_at refusal e.offset) (sym h.0))) s.3)
+  shown_then (fault at) k u x w r s t = cc s.0
+  shown_then (more e v l) k u x w r s t = (s.0, s.1, s.2, MatchResult-weaker s.0 s.3 (λ _ h. shown_then l k s.1 x w r h t) (λ refusal h. cc h.0))
 
   -- the first list ended in a fault: nothing of the second was shown
   pub shown_stops : (l k : Listing P) (u w : V) (f : Fault) → Shown shows u l (Err f) w → Shown shows u (append l k) (Err f) w
   unfolding Shown append
-  shown_stops done k u w f s = absurd (err_not_ok tt f s.0)
+  shown_stops done k u w f s = cc s.0
   shown_stops (fault at) k u w f s = s
-  shown_stops (more e v l) k u w f s = (s.0, s.1, s.2, cases_map s.0 (λ h. shown_stops l k s.1 w f h) (λ refusal h. h) s.3)
+  shown_stops (more e v l) k u w f s = (s.0, s.1, s.2, MatchResult-weaker s.0 s.3 (λ _ h. shown_stops l k s.1 w f h) (λ refusal h. h))

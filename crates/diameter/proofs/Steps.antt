@@ -107,13 +107,6 @@ members_none inner Number at start ys other = refl
 members_none inner Octets at start ys other = refl
 members_none inner (Group q) at start ys other = absurd (other q refl)
 
-module _ {P : Type 0} (kinds : P → ℕ → ℕ → Kind P) (p : P) (parent : ℕ) (m : List ℕ) (c d : Cursor) (o : Option (Entry P × Item)) where
-  pub read_some : (e : Entry P) (i : Item) → o ≡ Some (e, i) → Read kinds p parent m c d (Ok o) → Told kinds p parent m c d e i
-  read_some e i is r = subst (λ x. Read kinds p parent m c d (Ok x)) is r
-
-  pub read_none : o ≡ None → Read kinds p parent m c d (Ok o) → Ended kinds p parent m c d
-  read_none is r = subst (λ x. Read kinds p parent m c d (Ok x)) is r
-
 -- a reading leaves the cursor in the message
 pub read_within : {P : Type 0} (kinds : P → ℕ → ℕ → Kind P) (p : P) (parent : ℕ) (m : List ℕ) (c d : Cursor) (r : Result (Option (Entry P × Item)) Fault) → Within m c → Read kinds p parent m c d r → Within m d
 read_within kinds p parent m c d (Ok None) in-m t = subst (Within m) (sym t.same) in-m

@@ -1,5 +1,5 @@
 -- The AVPs of a message as one list in the order of their offsets, the members of a group after the group.
-use Rattle.std.specs.Prelude.{ℕ, zero, suc, ◌+◌, ◌-◌, cond, List, [], ◌∷◌, drop}
+use Rattle.std.specs.Prelude.{ℕ, zero, suc, ◌+◌, ◌-◌, if◌then◌else◌, List, [], ◌∷◌, drop}
 use Rattle.diameter_headers.specs.Framing.{padded, data_of, framed}
 use Rattle.diameter_headers.specs.Headers.{code_of, flags_of, length_of, header_len, vendor_of}
 use Rattle.diameter.specs.Values.{Value, value_of}
@@ -50,10 +50,10 @@ module _ {P : Type 0} (kinds : P → ℕ → ℕ → Kind P) where
   unfoldable pub level : (P → ℕ → ℕ → List ℕ → Listing P) → P → ℕ → ℕ → ℕ → List ℕ → Listing P
   level inner p parent skip at [] = done
   level inner p parent zero at (x ∷ xs) =
-      cond (framed (kind_in p (x ∷ xs)) (x ∷ xs))
-      (more (entry_at p parent at (x ∷ xs)) (value_of (kind_in p (x ∷ xs)) (data_of (x ∷ xs)))
-      (append (members inner (kind_in p (x ∷ xs)) at (at + header_len (x ∷ xs)) (data_of (x ∷ xs))) (level inner p parent (padded (length_of (x ∷ xs)) - 1) (at + 1) xs)))
-      (fault at)
+      if framed (kind_in p (x ∷ xs)) (x ∷ xs)
+      then more (entry_at p parent at (x ∷ xs)) (value_of (kind_in p (x ∷ xs)) (data_of (x ∷ xs)))
+      (append (members inner (kind_in p (x ∷ xs)) at (at + header_len (x ∷ xs)) (data_of (x ∷ xs))) (level inner p parent (padded (length_of (x ∷ xs)) - 1) (at + 1) xs))
+      else fault at
   level inner p parent (suc skip) at (x ∷ xs) = level inner p parent skip (at + 1) xs
 
   -- the list of xs at the place p, with groups down to a depth (a rank of places never lets it run out: each group ranks one lower)

@@ -2,7 +2,7 @@ use diameter_headers::Kind;
 
 // An AVP by its header and its place in the message: its data lies from `start` to `end`.
 // `parent` is the offset of the group that it stands in, 0 outside groups.
-#[derive(Clone, Copy)]
+#[derive(Clone, Copy, Debug, PartialEq, Eq)]
 pub struct Entry<P> {
     pub place: P,
     pub parent: usize,
@@ -16,7 +16,7 @@ pub struct Entry<P> {
 }
 
 // The data of an AVP: a number, or the part of the message that it is.
-#[derive(Clone, Copy)]
+#[derive(Clone, Copy, Debug, PartialEq, Eq)]
 pub enum Item<'a> {
     Number(u32),
     Octets(&'a [u8]),

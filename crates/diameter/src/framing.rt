@@ -7,6 +7,7 @@ ghost use Rattle.diameter.specs.Values.{held, value_of};
 
 use crate::cursor::Cursor;
 use crate::entry::{Entry, Item};
+use crate::site::Site;
 use diameter_headers::{AvpHeader, Kind, Place, number4, padding};
 use refusals::{Fault, Refusal};
 
@@ -19,11 +20,8 @@ fn frame<P: Place>(place: P, part: &[u8]) -> Option<(AvpHeader, Kind<P>)>
         return None;
     }
     let kind = place.kind_of(header.code, header.vendor);
-    if kind.fits(header.length - header.header) {
-        Some((header, kind))
-    } else {
-        None
-    }
+    kind.fits(header.length - header.header)
+        .then_some((header, kind))
 }
 
 // What an AVP's data is: no octet is copied.
@@ -33,52 +31,51 @@ fn item_of<P: Copy>(kind: Kind<P>, data: &[u8]) -> Item<'_>
 {
     match kind {
         Kind::Number => match data {
-            [a, b, c, d] => Item::Number(number4(*a, *b, *c, *d)),
-            _ => unreachable(),
+            &[a, b, c, d] => Item::Number(number4(a, b, c, d)),
+            _ => unreachable!(),
         },
         Kind::Group(_) => Item::Group(data),
         Kind::Unknown | Kind::Octets => Item::Octets(data),
     }
 }
 
-// The AVP at the cursor, which then stands after it; none at the end.
-pub(crate) fn read_avp<'a, P: Place>(
-    message: &'a [u8],
-    cursor: &mut Cursor,
-    place: P,
-    parent: usize,
-) -> Result<Option<(Entry<P>, Item<'a>)>, Fault>
-    requires { Within message.now cursor.old }
-    ensures { Read P.Place.kinds place parent message.now cursor.old cursor.new result }
-{
-    let offset = cursor.position;
-    let end = cursor.end;
-    if offset == end {
-        return Ok(None);
+impl<'a, P: Place> Site<'a, P> {
+    // The AVP at the cursor, which then stands after it; none at the end.
+    pub(crate) fn read_avp(
+        &self,
+        cursor: &mut Cursor,
+    ) -> Result<Option<(Entry<P>, Item<'a>)>, Fault>
+        requires { Within self.now.message.now cursor.old }
+        ensures { Read P.Place.kinds self.now.place self.now.parent self.now.message.now cursor.old cursor.new result }
+    {
+        let offset = cursor.position;
+        if offset == cursor.end {
+            return Ok(None);
+        }
+        let part = &self.message[offset..cursor.end];
+        let Some((avp, kind)) = frame(self.place, part) else {
+            return Err(Fault::at(Refusal::AvpLength, offset));
+        };
+        let AvpHeader {
+            code,
+            flags,
+            vendor,
+            header,
+            length,
+        } = avp;
+        let item = item_of(kind, &part[header..length]);
+        cursor.position = offset + length + padding(length);
+        let entry = Entry {
+            place: self.place,
+            parent: self.parent,
+            offset,
+            code,
+            vendor,
+            flags,
+            kind,
+            start: offset + header,
+            end: offset + length,
+        };
+        Ok(Some((entry, item)))
     }
-    let part = &message[offset..end];
-    let Some((avp, kind)) = frame(place, part) else {
-        return Err(Fault::at(Refusal::AvpLength, offset));
-    };
-    let AvpHeader {
-        code,
-        flags,
-        vendor,
-        header,
-        length,
-    } = avp;
-    let item = item_of(kind, &part[header..length]);
-    cursor.position = offset + length + padding(length);
-    let entry = Entry {
-        place,
-        parent,
-        offset,
-        code,
-        vendor,
-        flags,
-        kind,
-        start: offset + header,
-        end: offset + length,
-    };
-    Ok(Some((entry, item)))
 }

@@ -5,6 +5,7 @@ mod cursor;
 mod entry;
 mod framing;
 mod reader;
+mod site;
 mod visitor;
 mod walk;
 

@@ -5,9 +5,8 @@ ghost use Rattle.diameter.specs.Visiting.{Shown};
 
 use crate::cursor::Cursor;
 use crate::entry::{Entry, Item};
-use crate::framing::read_avp;
+use crate::site::Site;
 use crate::visitor::Visitor;
-use crate::walk::walk;
 use diameter_headers::{HEADER_LEN, Place};
 use refusals::Fault;
 
@@ -36,12 +35,25 @@ impl<'a> Reader<'a> {
         }
     }
 
+    // The AVPs of the message, outside groups.
+    fn site<P: Place>(&self, place: P) -> Site<'a, P>
+        ensures message { result.message ≡ self.now.message }
+        ensures place { result.place ≡ place }
+        ensures parent { result.parent ≡ 0 }
+    {
+        Site {
+            message: self.message,
+            place,
+            parent: 0,
+        }
+    }
+
     // The AVP that the reader stands at, which it then stands after; none at the end. The members of a group are passed over.
     pub fn next<P: Place>(&mut self, place: P) -> Result<Option<(Entry<P>, Item<'a>)>, Fault>
         ensures read { Read P.Place.kinds place 0 self.old.message.now self.old.cursor self.new.cursor result }
         ensures message { self.new.message ≡ self.old.message }
     {
-        read_avp(self.message, &mut self.cursor, place, 0)
+        self.site(place).read_avp(&mut self.cursor)
     }
 
     // Shows a visitor all that is left, members after their groups. Where the visit stops before the end, the reader stays where it was.
@@ -51,7 +63,7 @@ impl<'a> Reader<'a> {
         ensures message { self.new.message ≡ self.old.message }
     {
         let start = self.cursor;
-        let shown = walk(self.message, &mut self.cursor, place, 0, visitor);
+        let shown = self.site(place).walk(&mut self.cursor, visitor);
         if shown.is_err() {
             self.cursor = start;
         }

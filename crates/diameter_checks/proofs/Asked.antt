@@ -1,5 +1,7 @@
 -- What the visitors of this crate find in the list that they were shown.
-use Rattle.std.proofs.Common.{◌≡◌, Bool, true, false, cond, is_some, Some, None, Ok, Err, Option, Result, refl, ap, ◌∙◌, subst}
+use Rattle.std.proofs.Common.{◌≡◌, Bool, true, false, cond, Some, None, Ok, Err, Option, Result, refl, ap, ◌∙◌, subst}
+use Rattle.std.proofs.lemmas.Result.{MatchResult-at_ok}
+use Rattle.std.specs.Option.{option_or}
 use Rattle.refusals.specs.Faults.{fault_at}
 use Rattle.refusals.specs.declared.fault.Fault.{Fault}
 use Rattle.refusals.specs.declared.refusal.Refusal.{Refusal}
@@ -9,7 +11,6 @@ use Rattle.diameter.specs.Values.{Value}
 use Rattle.diameter.specs.Visiting.{Shown}
 use Rattle.diameter.specs.declared.entry.Entry.{Entry}
 use Rattle.diameter_checks.specs.declared.lookup.First.{First}
-use Rattle.diameter.proofs.Shows.{cases_ok}
 
 -- a visitor that lets every AVP pass and goes on as `after` says
 module _ {P V : Type 0} (after : V → Entry P → Value → V) where
@@ -19,7 +20,7 @@ module _ {P V : Type 0} (after : V → Entry P → Value → V) where
   -- it was shown the rest of the list after the first AVP
   passes_more : (u : V) (e : Entry P) (v : Value) (l : Listing P) (r : Result (Unit {0}) Fault) (w : V) → Shown Passes u (more e v l) r w → Shown Passes (after u e v) l r w
   unfolding Shown
-  passes_more u e v l r w s = subst (λ x. Shown Passes x l r w) s.2.1 (cases_ok s.0 tt (Shown Passes s.1 l r w) (λ refusal. (r ≡ Err (fault_at refusal e.offset)) × (w ≡ s.1)) s.2.0 s.3)
+  passes_more u e v l r w s = subst (λ x. Shown Passes x l r w) s.2.1 (MatchResult-at_ok (λ _. Shown Passes s.1 l r w) (λ refusal. (r ≡ Err (fault_at refusal e.offset)) × (w ≡ s.1)) tt s.2.0 s.3)
 
   -- it stops only where the framing does
   pub shown_framing : (l : Listing P) (u : V) (r : Result (Unit {0}) Fault) (w : V) → Shown Passes u l r w → r ≡ framing l
@@ -28,24 +29,23 @@ module _ {P V : Type 0} (after : V → Entry P → Value → V) where
   shown_framing (fault at) u r w s = s.0
   shown_framing (more e v l) u r w s = shown_framing l (after u e v) r w (passes_more u e v l r w s)
 
-abbrev or_else : {A : Type 0} → Option A → Option A → Option A
-or_else o p = cond (is_some o) o p
+or_none : {A : Type 0} (o : Option A) → o ≡ option_or o None
+or_none None = refl
+or_none (Some x) = refl
 
-none_else : {A : Type 0} (o : Option A) → o ≡ or_else o None
-none_else None = refl
-none_else (Some x) = refl
-
-kept_first : {A : Type 0} (o : Option A) (b : Bool) (x : A) (p : Option A) → or_else (or_else o (cond b (Some x) o)) p ≡ or_else o (cond b (Some x) p)
+-- what was found stays, and what comes after is found where nothing was
+kept_first : {A : Type 0} (o : Option A) (b : Bool) (x : A) (p : Option A) → option_or (cond b (option_or o (Some x)) o) p ≡ option_or o (cond b (Some x) p)
 kept_first None true x p = refl
 kept_first None false x p = refl
-kept_first (Some y) b x p = refl
+kept_first (Some y) true x p = refl
+kept_first (Some y) false x p = refl
 
 abbrev pub kept : {P : Type 0} → First P → Entry P → Value → First P
-kept u e v = record { code = u.code; vendor = u.vendor; found = or_else u.found (cond (named u.code u.vendor e) (Some e) u.found) }
+kept u e v = record u { found = cond (named u.code u.vendor e) (option_or u.found (Some e)) u.found }
 
 -- the first AVP of its name is what it holds already or the first of the list
-pub shown_first : {P : Type 0} (l : Listing P) (u : First P) (r : Result (Unit {0}) Fault) (w : First P) → Shown (Passes kept) u l r w → w.found ≡ or_else u.found (first u.code u.vendor l)
+pub shown_first : {P : Type 0} (l : Listing P) (u : First P) (r : Result (Unit {0}) Fault) (w : First P) → Shown (Passes kept) u l r w → w.found ≡ option_or u.found (first u.code u.vendor l)
 unfolding Shown first
-shown_first done u r w s = ap (λ x. x.found) s.1 ∙ none_else u.found
-shown_first (fault at) u r w s = ap (λ x. x.found) s.1 ∙ none_else u.found
+shown_first done u r w s = ap (λ x. x.found) s.1 ∙ or_none u.found
+shown_first (fault at) u r w s = ap (λ x. x.found) s.1 ∙ or_none u.found
 shown_first (more e v l) u r w s = shown_first l (kept u e v) r w (passes_more kept u e v l r w s) ∙ kept_first u.found (named u.code u.vendor e) e (first u.code u.vendor l)

@@ -1,5 +1,5 @@
 -- What is asked of a whole list.
-use Rattle.std.specs.Prelude.{ℕ, Bool, false, cond, Some, None, Ok, Err, Option, Result, ◌==◌}
+use Rattle.std.specs.Prelude.{ℕ, Bool, ◌&&◌, if◌then◌else◌, Some, None, Ok, Err, Option, Result, ◌==◌}
 use Rattle.refusals.specs.Faults.{fault_at}
 use Rattle.refusals.specs.declared.fault.Fault.{Fault}
 use Rattle.refusals.specs.declared.refusal.Refusal.TheVariants.{AvpLength}
@@ -14,10 +14,10 @@ framing (more e v l) = framing l
 
 -- the AVP has this code and vendor
 abbrev pub named : {P : Type 0} → ℕ → ℕ → Entry P → Bool
-named code vendor e = cond (e.code == code) (e.vendor == vendor) false
+named code vendor e = e.code == code && e.vendor == vendor
 
 -- the first AVP of the list with this code and vendor
 unfoldable pub first : {P : Type 0} → ℕ → ℕ → Listing P → Option (Entry P)
 first code vendor done = None
 first code vendor (fault at) = None
-first code vendor (more e v l) = cond (named code vendor e) (Some e) (first code vendor l)
+first code vendor (more e v l) = if named code vendor e then Some e else first code vendor l

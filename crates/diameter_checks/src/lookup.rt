@@ -1,4 +1,5 @@
-ghost use Rattle.std.specs.Prelude.{◌≡◌, is_some, if◌then◌else◌, Some, Ok};
+ghost use Rattle.std.specs.Option.{option_or};
+ghost use Rattle.std.specs.Prelude.{◌≡◌, if◌then◌else◌, Some, Ok};
 ghost use Rattle.diameter.specs.Listing.{listing};
 ghost use Rattle.diameter_checks.specs.Questions.{first, named};
 
@@ -15,11 +16,11 @@ struct First<P> {
 }
 
 impl<P: Place> Visitor<P> for First<P> {
-    ghost shows = { λ u e _ a w. (a ≡ Ok tt) × (w ≡ record { code = u.code; vendor = u.vendor; found = (if is_some u.found then u.found else (if named u.code u.vendor e then Some e else u.found)) }) };
+    ghost shows = { λ u e _ a w. (a ≡ Ok tt) × (w ≡ record u { found = (if named u.code u.vendor e then option_or u.found (Some e) else u.found) }) };
 
     fn show(&mut self, entry: &Entry<P>, _item: Item<'_>) -> Result<(), Refusal> {
-        if self.found.is_none() && entry.code == self.code && entry.vendor == self.vendor {
-            self.found = Some(*entry);
+        if entry.code == self.code && entry.vendor == self.vendor {
+            self.found = self.found.or(Some(*entry));
         }
         Ok(())
     }

@@ -1,5 +1,5 @@
 -- When an AVP is well framed.
-use Rattle.std.specs.Prelude.{◌≡◌, ℕ, ◌+◌, ◌-◌, ◌*◌, ◌/◌, ◌≤◌, Bool, true, false, cond, List, length, take, drop, ◌==◌, nat_le}
+use Rattle.std.specs.Prelude.{◌≡◌, ℕ, ◌+◌, ◌-◌, ◌*◌, ◌/◌, ◌≤◌, Bool, true, ◌&&◌, List, length, take, drop, ◌==◌, nat_le}
 use Rattle.diameter_headers.specs.Headers.{length_of, header_len}
 use Rattle.diameter_headers.specs.declared.place.Kind.{Kind}
 use Rattle.diameter_headers.specs.declared.place.Kind.TheVariants.{Unknown, Number, Octets, Group}
@@ -28,4 +28,4 @@ pub record Framed {P : Type 0} (k : Kind P) (xs : List ℕ) : Type 0 where
 
 -- the same as a test
 unfoldable pub framed : {P : Type 0} → Kind P → List ℕ → Bool
-framed k xs = cond (nat_le 8 (length xs)) (cond (nat_le (header_len xs) (length_of xs)) (cond (nat_le (padded (length_of xs)) (length xs)) (fitting k (length_of xs - header_len xs)) false) false) false
+framed k xs = nat_le 8 (length xs) && (nat_le (header_len xs) (length_of xs) && (nat_le (padded (length_of xs)) (length xs) && fitting k (length_of xs - header_len xs)))

@@ -1,5 +1,5 @@
 -- Where the fields of a header lie in the octets that begin with it.
-use Rattle.std.specs.Prelude.{◌≡◌, ℕ, ◌+◌, ◌^◌, ◌<◌, ◌≤◌, Bool, cond, List, length, Some, None, Ok, Err, Option, Result, ◌==◌, bit_and, nat_le, slice_index}
+use Rattle.std.specs.Prelude.{◌≡◌, ℕ, ◌+◌, ◌^◌, ◌<◌, ◌≤◌, Bool, if◌then◌else◌, List, length, Some, None, Ok, Err, Option, Result, ◌==◌, ◌&&◌, bit_and, nat_le, slice_index}
 use Rattle.refusals.specs.Faults.{fault_at}
 use Rattle.refusals.specs.declared.fault.Fault.{Fault}
 use Rattle.refusals.specs.declared.refusal.Refusal.TheVariants.{MessageLength}
@@ -29,10 +29,10 @@ abbrev pub plain : List ℕ → Bool
 plain xs = bit_and (flags_of xs) 128 == 0
 
 abbrev pub header_len : List ℕ → ℕ
-header_len xs = cond (plain xs) 8 12
+header_len xs = if plain xs then 8 else 12
 
 abbrev pub vendor_of : List ℕ → ℕ
-vendor_of xs = cond (plain xs) 0 (four xs 8)
+vendor_of xs = if plain xs then 0 else four xs 8
 
 -- all of the header is there, and h has the fields of the AVP that xs begins with
 pub record AvpHeaderOf (xs : List ℕ) (h : AvpHeader) : Type 0 where
@@ -58,8 +58,8 @@ header_in m = record {
 
 -- the header, where the message has one
 abbrev pub header_read : List ℕ → Option MessageHeader
-header_read m = cond (nat_le 20 (length m)) (Some (header_in m)) None
+header_read m = if nat_le 20 (length m) then Some (header_in m) else None
 
 -- has the message a header, and the length that its header says?
 abbrev pub length_verdict : List ℕ → Result (Unit {0}) Fault
-length_verdict m = cond (nat_le 20 (length m)) (cond ((header_in m).length == length m) (Ok tt) (Err (fault_at MessageLength 0))) (Err (fault_at MessageLength 0))
+length_verdict m = if nat_le 20 (length m) && (header_in m).length == length m then Ok tt else Err (fault_at MessageLength 0)

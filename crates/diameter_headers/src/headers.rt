@@ -20,7 +20,7 @@ pub const VENDOR_FLAG: u8 = 0x80;
 pub const MANDATORY_FLAG: u8 = 0x40;
 
 // The header of a message.
-#[derive(Clone, Copy)]
+#[derive(Clone, Copy, Debug, PartialEq, Eq)]
 pub struct MessageHeader {
     pub version: u8,
     pub length: u32,
@@ -36,7 +36,7 @@ impl MessageHeader {
     pub fn read(message: &[u8]) -> Option<MessageHeader>
         ensures { result ≡ header_read message.now }
     {
-        let [
+        let &[
             version,
             l0,
             l1,
@@ -63,13 +63,13 @@ impl MessageHeader {
             return None;
         };
         Some(MessageHeader {
-            version: *version,
-            length: number3(*l0, *l1, *l2),
-            flags: *flags,
-            command: number3(*c0, *c1, *c2),
-            application: number4(*a0, *a1, *a2, *a3),
-            hop_by_hop: number4(*h0, *h1, *h2, *h3),
-            end_to_end: number4(*e0, *e1, *e2, *e3),
+            version,
+            length: number3(l0, l1, l2),
+            flags,
+            command: number3(c0, c1, c2),
+            application: number4(a0, a1, a2, a3),
+            hop_by_hop: number4(h0, h1, h2, h3),
+            end_to_end: number4(e0, e1, e2, e3),
         })
     }
 }
@@ -92,7 +92,7 @@ pub fn padding(length: usize) -> usize
 }
 
 // The header of an AVP: `header` octets come before the data, and `length` counts both.
-#[derive(Clone, Copy)]
+#[derive(Clone, Copy, Debug, PartialEq, Eq)]
 pub struct AvpHeader {
     pub code: u32,
     pub flags: u8,
@@ -109,28 +109,20 @@ impl AvpHeader {
         let [c0, c1, c2, c3, flags, l0, l1, l2, rest @ ..] = part else {
             return None;
         };
-        let code = number4(*c0, *c1, *c2, *c3);
-        let flags = *flags;
-        let length = number3(*l0, *l1, *l2) as usize;
-        if flags & VENDOR_FLAG == 0 {
-            return Some(AvpHeader {
-                code,
-                flags,
-                vendor: 0,
-                header: PLAIN_HEADER_LEN,
-                length,
-            });
-        }
-        let [v0, v1, v2, v3, ..] = rest else {
-            return None;
+        let (header, vendor) = if *flags & VENDOR_FLAG == 0 {
+            (PLAIN_HEADER_LEN, 0)
+        } else {
+            let [v0, v1, v2, v3, ..] = rest else {
+                return None;
+            };
+            (VENDOR_HEADER_LEN, number4(*v0, *v1, *v2, *v3))
         };
-        let vendor = number4(*v0, *v1, *v2, *v3);
         Some(AvpHeader {
-            code,
-            flags,
+            code: number4(*c0, *c1, *c2, *c3),
+            flags: *flags,
             vendor,
-            header: VENDOR_HEADER_LEN,
-            length,
+            header,
+            length: number3(*l0, *l1, *l2) as usize,
         })
     }
 }

@@ -6,7 +6,7 @@ pub(crate) fn number3(a: u8, b: u8, c: u8) -> u32
     ensures value { result ≡ be3 a b c }
     ensures bound { result < 2 ^ 24 }
 {
-    u32::from_be_bytes([0, a, b, c])
+    number4(0, a, b, c)
 }
 
 // Four octets as a number, the first octet the highest.

@@ -4,7 +4,7 @@ ghost use Rattle.diameter_headers.specs.declared.place.Kind.{Kind};
 ghost use Rattle.diameter_headers.specs.declared.place.Kind.TheVariants.{Group};
 
 // What an AVP is at a place. A group leads to the place of its members.
-#[derive(Clone, Copy)]
+#[derive(Clone, Copy, Debug, PartialEq, Eq)]
 pub enum Kind<P> {
     Unknown,
     Number,

@@ -1,5 +1,6 @@
 -- What one turn of the measuring loop keeps.
-use Rattle.std.proofs.Common.{◌≡◌, ℕ, ◌+◌, ◌^◌, ◌<◌, ◌≤◌, true, false, cond, List, [], ◌∷◌, length, get_or, drop, None, sym, refl, ap, ◌∙◌, subst, add-one, arith, length-append, drop-cons}
+use Rattle.std.proofs.Common.{◌≡◌, ℕ, ◌+◌, ◌^◌, ◌<◌, ◌≤◌, true, false, ◌&&◌, List, [], ◌∷◌, length, get_or, drop, None, sym, refl, ap, ◌∙◌, subst, add-one, arith, length-append, drop-cons}
+use Rattle.std.proofs.lemmas.Bool.{and_parts, false≢true}
 use Rattle.std.proofs.lemmas.List.{drop_all}
 use Rattle.diameter_headers.specs.Framing.{padded}
 use Rattle.diameter_headers.specs.declared.place.Kind.{Kind}
@@ -42,7 +43,7 @@ module _ {P : Type 0} (kinds : P → ℕ → ℕ → Kind P) (p : P) (avps : Lis
     sum_more : message_len avps ≡ total + (padded (length_for a) + length (encode_avps (drop (i + 1) avps)))
     sum_more = t.sum ∙ ap (λ l. total + length (encode_avps l)) left ∙ ap (λ n. total + n) (encodes_more a (drop (i + 1) avps))
 
-    fits_more : all_fit kinds p avps ≡ cond (fits_at kinds p a) (all_fit kinds p (drop (i + 1) avps)) false
+    fits_more : all_fit kinds p avps ≡ (fits_at kinds p a && all_fit kinds p (drop (i + 1) avps))
     unfolding all_fit
     fits_more = t.fits ∙ ap (all_fit kinds p) left
 
@@ -50,7 +51,7 @@ module _ {P : Type 0} (kinds : P → ℕ → ℕ → Kind P) (p : P) (avps : Lis
     unfolding Typed
     counted_more fit code vendor next is small = record {
       sum = sum_more ∙ omega arith;
-      fits = fits_more ∙ ap (λ b. cond b (all_fit kinds p (drop (i + 1) avps)) false) fit;
+      fits = fits_more ∙ ap (λ b. b && all_fit kinds p (drop (i + 1) avps)) fit;
       typed = λ rest. t.typed (subst Typed (sym left) (code, vendor, rest));
       small = small;
     }
@@ -59,7 +60,7 @@ module _ {P : Type 0} (kinds : P → ℕ → ℕ → Kind P) (p : P) (avps : Lis
     too_long long = λ small fit. omega (arith, sum_more)
 
     pub no_fit : fits_at kinds p a ≡ false → Unmeasured kinds p avps
-    no_fit bad = λ small fit. let z : true ≡ false = sym fit ∙ fits_more ∙ ap (λ b. cond b (all_fit kinds p (drop (i + 1) avps)) false) bad in let c : ◌≡◌ {A = ℕ} 0 1 = cc in omega arith
+    no_fit bad = λ small fit. false≢true (sym bad ∙ (and_parts _ _ (sym fits_more ∙ fit)).0)
 
   pub counted_all : (total : ℕ) → Counting (length avps) total → Measured kinds p avps total
   unfolding all_fit Typed encode_avps

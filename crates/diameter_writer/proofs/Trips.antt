@@ -1,7 +1,8 @@
 -- What is written is read again.
-use Rattle.std.proofs.Common.{◌≡◌, ℕ, ◌+◌, ◌-◌, ◌*◌, ◌/◌, ◌%◌, ◌^◌, ◌<◌, Bool, true, false, cond, not, eqb, leb, List, [], ◌∷◌, ◌++◌, length, get_or, take, drop, replicate, is_some, Some, None, Option, unwrap_or, sym, refl, ap, ◌∙◌, append_assoc, mod-eq_of_lt, arith, length-append, le-leb}
+use Rattle.std.proofs.Common.{◌≡◌, ℕ, ◌+◌, ◌-◌, ◌/◌, ◌%◌, ◌^◌, ◌<◌, Bool, true, false, cond, not, eqb, leb, List, [], ◌∷◌, ◌++◌, length, get_or, take, drop, replicate, is_some, Some, None, Option, unwrap_or, sym, refl, ap, ◌∙◌, append_assoc, arith, length-append, le-leb}
 use lib.Bits.{bit_and}
-use Rattle.std.proofs.lemmas.Nat.{shr-shr, div-add-mod'}
+use Rattle.std.proofs.lemmas.Bool.{and_parts}
+use Rattle.std.proofs.lemmas.Nat.{from_be_bytes-to_be_bytes_4}
 use Rattle.std.proofs.lemmas.List.{take_at, drop_at}
 use Rattle.diameter_headers.specs.Framing.{Framed, padded, fitting}
 use Rattle.diameter_headers.specs.Headers as read
@@ -9,7 +10,7 @@ use Rattle.diameter.specs.Listing.{Listing, more, append, members, listed, listi
 use Rattle.diameter_headers.specs.Octets.{be3, be4}
 use Rattle.diameter.specs.Values.{value_of}
 use Rattle.diameter_headers.specs.declared.place.Kind.{Kind}
-use Rattle.diameter.proofs.Levels.{both_left, both_right, level_more, level_done}
+use Rattle.diameter.proofs.Levels.{level_more, level_done}
 use Rattle.diameter_writer.specs.Encoding.{encode_avp, encode_avps, fits_at, flags_for, header_len_for, length_for, quad, triple, vendor_for, vendor_part}
 use Rattle.diameter_writer.specs.Measures.{FieldsTyped, Typed}
 use Rattle.diameter_writer.specs.Messages.{all_fit, encode_message, message_len}
@@ -19,17 +20,8 @@ use Rattle.diameter_writer.specs.declared.message.MessageFields.{MessageFields}
 use Rattle.diameter_writer.proofs.Measuring.{encodes_more}
 use Rattle.diameter_writer.proofs.Writes.{encode_length}
 
-joined : (n q1 q2 q3 r0 r1 r2 r3 : ℕ) → q1 * 256 + r0 ≡ n → q2 * 256 + r1 ≡ q1 → q3 * 256 + r2 ≡ q2 → r3 ≡ q3 → be4 r3 r2 r1 r0 ≡ n
-joined n q1 q2 q3 r0 r1 r2 r3 a b c d = omega arith
-
 be4_quad : (n : ℕ) → n < 2 ^ 32 → be4 (n / 16777216 % 256) (n / 65536 % 256) (n / 256 % 256) (n % 256) ≡ n
-be4_quad n h =
-    let below : n / 16777216 < 256 = omega arith in
-    joined n (n / 256) (n / 65536) (n / 16777216) (n % 256) (n / 256 % 256) (n / 65536 % 256) (n / 16777216 % 256)
-    (div-add-mod' n 256)
-    (ap (λ x. x * 256 + n / 256 % 256) (sym (shr-shr n 8 8)) ∙ div-add-mod' (n / 256) 256)
-    (ap (λ x. x * 256 + n / 65536 % 256) (sym (shr-shr n 16 8)) ∙ div-add-mod' (n / 65536) 256)
-    (mod-eq_of_lt below)
+be4_quad n h = omega (arith, from_be_bytes-to_be_bytes_4 n h)
 
 be3_triple : (n : ℕ) → n < 2 ^ 24 → be3 (n / 65536 % 256) (n / 256 % 256) (n % 256) ≡ n
 be3_triple n h = omega arith
@@ -101,8 +93,9 @@ module _ {P : Type 0} (kinds : P → ℕ → ℕ → Kind P) (rank : P → ℕ) 
   trips [] at typed fits small = level_done kinds (listed kinds (rank p)) p 0 at [] refl
   trips (a ∷ rest) at typed fits small =
       let more-long = encodes_more a rest in
-      trip kinds (listed kinds (rank p)) p a at (encode_avps rest) typed.0 typed.1 (omega arith) (both_left (fits_at kinds p a) (all_fit kinds p rest) fits)
-      ∙ ap (λ l. more (entry_for kinds rank p at a) (value_of (kind_for kinds rank p a) a.octets.now) (append (members (listed kinds (rank p)) (kind_for kinds rank p a) at (at + header_len_for a) a.octets.now) l)) (trips rest (at + length (encode_avp a)) typed.2 (both_right (fits_at kinds p a) (all_fit kinds p rest) fits) (omega arith))
+      let fit = and_parts (fits_at kinds p a) (all_fit kinds p rest) fits in
+      trip kinds (listed kinds (rank p)) p a at (encode_avps rest) typed.0 typed.1 (omega arith) fit.0
+      ∙ ap (λ l. more (entry_for kinds rank p at a) (value_of (kind_for kinds rank p a) a.octets.now) (append (members (listed kinds (rank p)) (kind_for kinds rank p a) at (at + header_len_for a) a.octets.now) l)) (trips rest (at + length (encode_avp a)) typed.2 fit.1 (omega arith))
 
   -- a message that was written reads as what it was written from
   pub reads_as : (f : MessageFields) (avps : List Avp) → f.command < 2 ^ 24 → FieldsTyped f → message_len avps < 2 ^ 24 → Typed avps → all_fit kinds p avps ≡ true → ReadsAs kinds rank p f avps (encode_message f avps)

@@ -1,10 +1,12 @@
 -- One write after another.
-use Rattle.std.proofs.Common.{◌≡◌, ℕ, ◌+◌, ◌-◌, ◌≤◌, cond, List, [], ◌∷◌, ◌++◌, length, take, drop, replicate, is_some, Some, None, Option, sym, refl, ap, ◌∙◌, subst, append_assoc, add-zero, add_assoc, arith, length-append}
-use Rattle.std.proofs.lemmas.List.{take-append-drop, take_at, drop_at, drop-drop, length-drop, length-take-le, length-replicate, take-replicate}
+use Rattle.std.proofs.Common.{◌≡◌, ℕ, ◌+◌, ◌-◌, ◌≤◌, cond, List, [], ◌++◌, length, take, drop, replicate, is_some, Some, None, Option, sym, refl, ap, ◌∙◌, append_assoc, add-zero, add_assoc, arith, length-append}
+use Rattle.std.proofs.lemmas.List.{take-append-drop, take_at, drop_at, drop-drop, length-drop, length-take-le, length-replicate}
 use Rattle.diameter_headers.specs.Framing.{padded}
-use Rattle.diameter_writer.specs.Encoding.{encode_avp, flags_for, length_for, quad, triple, vendor_part}
+use Rattle.diameter_writer.specs.Encoding.{encode_avp, length_for, vendor_part}
+use Rattle.diameter_writer.specs.Outputs.{Put}
 use Rattle.diameter_writer.specs.Writing.{Wrote}
 use Rattle.diameter_writer.specs.declared.avp.Avp.{Avp}
+use Rattle.diameter_writer.specs.declared.output.Output.{Output}
 
 pub wrote_length : (old : List ℕ) (at : ℕ) (xs new : List ℕ) → Wrote old at xs new → length new ≡ length old
 wrote_length old at xs new w =
@@ -50,23 +52,13 @@ encode_length a =
     let fill : List ℕ = replicate (padded n - n) 0 in
     omega (arith, vendor_length a.vendor, length-append (vendor_part a.vendor) (a.octets.now ++ fill), length-append a.octets.now fill, length-replicate {A = ℕ} (padded n - n) 0)
 
--- the first eight octets of an AVP
-abbrev pub front : Avp → List ℕ
-front a = quad a.code ++ (flags_for a ∷ triple (length_for a))
+-- an output on which nothing is written, and one on which two writes follow each other
+pub put_none : (o : Output) → Put o [] o
+put_none o = record { same = refl; wrote = wrote_none o.octets.now o.end o.within; end = sym (add-zero o.end) }
 
--- front, vendor, data and padding, each straight after the other, are the AVP
-pub wrote_avp : (a : Avp) (old : List ℕ) (at : ℕ) (xs m : List ℕ) (e1 : ℕ) (m2 : List ℕ) (e2 : ℕ) (m3 : List ℕ) (e3 : ℕ) (zs new : List ℕ) → xs ≡ front a → Wrote old at xs m → e1 ≡ at + length xs → Wrote m e1 (vendor_part a.vendor) m2 → e2 ≡ e1 + length (vendor_part a.vendor) → Wrote m2 e2 a.octets.now m3 → e3 ≡ e2 + length a.octets.now → zs ≡ replicate (padded (length_for a) - length_for a) 0 → Wrote m3 e3 zs new → Wrote old at (encode_avp a) new
-unfolding encode_avp
-wrote_avp a old at xs m e1 m2 e2 m3 e3 zs new x w s1 w2 s2 w3 s3 z w4 =
-    let v = vendor_part a.vendor in
-    let octets = a.octets.now in
-    let tail : Wrote m2 e2 (octets ++ zs) new = wrote_more m2 e2 octets m3 e3 zs new w3 s3 w4 in
-    let more : Wrote m e1 (v ++ (octets ++ zs)) new = wrote_more m e1 v m2 e2 (octets ++ zs) new w2 s2 tail in
-    let all : Wrote old at (xs ++ (v ++ (octets ++ zs))) new = wrote_more old at xs m e1 (v ++ (octets ++ zs)) new w s1 more in
-    subst (λ l. Wrote old at l new) (λ i. x i ++ (v ++ (octets ++ z i))) all
-
--- the first of three zeros
-pub zeros_are : (gap n : ℕ) → gap ≡ padded n - n → take {A = ℕ} (gap - 0) (0 ∷ 0 ∷ 0 ∷ []) ≡ replicate (padded n - n) 0
-zeros_are gap n is =
-    let k : gap - 0 ≡ padded n - n = omega arith in
-    ap (λ x. take {A = ℕ} x (0 ∷ 0 ∷ 0 ∷ [])) k ∙ take-replicate {X = ℕ} (padded n - n) 3 0 (omega arith)
+pub put_more : (o : Output) (xs : List ℕ) (m : Output) (ys : List ℕ) (n : Output) → Put o xs m → Put m ys n → Put o (xs ++ ys) n
+put_more o xs m ys n p q = record {
+  same = q.same ∙ p.same;
+  wrote = wrote_more o.octets.now o.end xs m.octets.now m.end ys n.octets.now p.wrote p.end q.wrote;
+  end = omega (arith, p.end, q.end, length-append xs ys);
+}

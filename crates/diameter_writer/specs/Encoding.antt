@@ -1,5 +1,5 @@
 -- The octets of AVPs.
-use Rattle.std.specs.Prelude.{ℕ, ◌+◌, ◌-◌, ◌/◌, ◌%◌, Bool, cond, List, [], ◌∷◌, ◌++◌, length, replicate, is_some, Some, None, Option}
+use Rattle.std.specs.Prelude.{ℕ, ◌+◌, ◌-◌, ◌/◌, ◌%◌, Bool, if◌then◌else◌, List, [], ◌∷◌, ◌++◌, length, replicate, is_some, Some, None, Option}
 use Rattle.std.specs.Option.{unwrap_or}
 use Rattle.diameter_headers.specs.Framing.{fitting, padded}
 use Rattle.diameter_headers.specs.declared.place.Kind.{Kind}
@@ -14,7 +14,7 @@ quad n = (n / 16777216 % 256) ∷ (n / 65536 % 256) ∷ (n / 256 % 256) ∷ (n %
 
 -- the flag V where there is a vendor, the flag M where the AVP is mandatory
 abbrev pub flags_for : Avp → ℕ
-flags_for a = cond (is_some a.vendor) 128 0 + cond a.mandatory 64 0
+flags_for a = (if is_some a.vendor then 128 else 0) + (if a.mandatory then 64 else 0)
 
 -- the vendor as a reader sees it
 abbrev pub vendor_for : Avp → ℕ
@@ -27,7 +27,7 @@ vendor_part (Some vendor) = quad vendor
 
 -- the octets before the data
 abbrev pub header_len_for : Avp → ℕ
-header_len_for a = cond (is_some a.vendor) 12 8
+header_len_for a = if is_some a.vendor then 12 else 8
 
 -- header and data
 abbrev pub length_for : Avp → ℕ

@@ -1,5 +1,5 @@
 -- The octets of a whole message, and when it can be written.
-use Rattle.std.specs.Prelude.{ℕ, ◌+◌, ◌^◌, Bool, true, false, cond, List, [], ◌∷◌, ◌++◌, length, nat_le, nat_lt}
+use Rattle.std.specs.Prelude.{ℕ, ◌+◌, ◌^◌, Bool, true, ◌&&◌, List, [], ◌∷◌, ◌++◌, length, nat_le, nat_lt}
 use Rattle.diameter_headers.specs.declared.place.Kind.{Kind}
 use Rattle.diameter_writer.specs.Encoding.{encode_avps, fits_at, quad, triple}
 use Rattle.diameter_writer.specs.declared.avp.Avp.{Avp}
@@ -21,8 +21,8 @@ module _ {P : Type 0} (kinds : P → ℕ → ℕ → Kind P) (p : P) where
   -- the data of each AVP has the length of what the AVP is at the place p
   unfoldable pub all_fit : List Avp → Bool
   all_fit [] = true
-  all_fit (a ∷ rest) = cond (fits_at kinds p a) (all_fit rest) false
+  all_fit (a ∷ rest) = fits_at kinds p a && all_fit rest
 
   -- the message can be written: command and length fit three octets, the message fits the room, and its numbers have four octets
   abbrev pub writable : MessageFields → List Avp → ℕ → Bool
-  writable f avps room = cond (nat_lt f.command (2 ^ 24)) (cond (nat_lt (message_len avps) (2 ^ 24)) (cond (nat_le (message_len avps) room) (all_fit avps) false) false) false
+  writable f avps room = nat_lt f.command (2 ^ 24) && (nat_lt (message_len avps) (2 ^ 24) && (nat_le (message_len avps) room && all_fit avps))

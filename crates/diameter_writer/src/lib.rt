@@ -4,7 +4,7 @@
 mod avp;
 mod measure;
 mod message;
-mod put;
+mod output;
 mod write;
 
 pub use avp::Avp;

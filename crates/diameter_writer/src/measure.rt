@@ -13,16 +13,9 @@ pub(crate) fn measure<P: Place>(place: P, avps: &[Avp]) -> Option<usize>
 {
     let mut total = HEADER_LEN;
     for avp in avps {
-        let octets = avp.octets.len();
-        if !avp.fits_at(place) {
-            return None;
-        }
-        if octets >= THREE_OCTET_LIMIT {
-            return None;
-        }
-        let length = avp.header_len() + octets;
+        let length = avp.length();
         total += length + padding(length);
-        if total >= THREE_OCTET_LIMIT {
+        if !avp.fits_at(place) || total >= THREE_OCTET_LIMIT {
             return None;
         }
     }

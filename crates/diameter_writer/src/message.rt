@@ -1,5 +1,5 @@
 // The header fields of a message to be written; its length follows from its AVPs.
-#[derive(Clone, Copy)]
+#[derive(Clone, Copy, Debug, PartialEq, Eq)]
 pub struct MessageFields {
     pub version: u8,
     pub flags: u8,
