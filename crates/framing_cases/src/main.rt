@@ -5,7 +5,7 @@
 ghost use Rattle.std.specs.Prelude.{◌≡◌};
 ghost use Rattle.framing_cases.specs.Verdict.{verdict};
 
-use anyhow::{Context, anyhow};
+use anyhow::Context;
 use diameter_checks::check_framing;
 use diameter_headers::check_length;
 use gx_dictionary::Part;
@@ -36,9 +36,9 @@ fn print_verdict(rt: &HostRuntime, name: &str, octets: &[u8]) -> io::Result<()> 
 // Runs one line of the table.
 fn run_case(rt: &HostRuntime, line: &str) -> anyhow::Result<()> {
     let (name, hex) = line.split_once(' ').context("a line has no space")?;
-    let octets = read_hex(rt.alloc(), hex.as_bytes()).map_err(|_| anyhow!(
-        "a line is not hexadecimal"
-    ))?;
+    let octets = read_hex(rt.alloc(), hex.as_bytes())
+        .ok()
+        .context("a line is not hexadecimal")?;
     print_verdict(rt, name, octets.as_slice())?;
     Ok(())
 }
