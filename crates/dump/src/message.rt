@@ -104,7 +104,7 @@ fn add_avps(text: String, message: &[u8]) -> Result<String, AllocError>
 }
 
 // A message as text: its header, a line for each AVP, and how it ends.
-#[tactic(auto, using(crate::proofs::Heads::headed, crate::proofs::Heads::headless))]
+#[tactic(auto, unfolding(crate::specs::Dump::dump_text))]
 pub fn message_text(heap: Global, message: &[u8]) -> Result<Vec<u8>, AllocError>
     ensures { IfOk result (λ v. v.items ≡ dump_text message.now) }
 {
