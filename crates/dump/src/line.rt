@@ -1,20 +1,20 @@
-ghost use Rattle.std.specs.Prelude.{◌≡◌, ◌++◌, IfOk, string_bytes, OnOk};
+ghost use Rattle.std.specs.Prelude.{◌≡◌, true, false, Some, MatchOption};
 ghost use Rattle.diameter.specs.Values.{held};
-ghost use Rattle.dump.specs.Lines.{all_printable, fields_of, head_of, indent_of, line_of, octets_text, printable, value_text};
+ghost use Rattle.dump.specs.Lines.{all_printable, indent_of, line_of, printable, value_text};
 
 use diameter::{Entry, Item};
 use gx_dictionary::Part;
-use hex_text::push_hex;
-use std::alloc::{AllocError, Global};
+use hex_text::Hex;
+use std::{fmt, str};
 
 // What a line at this place begins with.
-fn indent(place: Part) -> &'static [u8]
+fn indent(place: Part) -> &'static str
     ensures { result.now ≡ indent_of place }
 {
     match place {
-        Part::Message => b"",
-        Part::ExperimentalResult | Part::Remove | Part::Install => b"  ",
-        Part::Definition => b"    ",
+        Part::Message => "",
+        Part::ExperimentalResult | Part::Remove | Part::Install => "  ",
+        Part::Definition => "    ",
     }
 }
 
@@ -22,90 +22,72 @@ fn indent(place: Part) -> &'static [u8]
 fn is_printable(c: u8) -> bool
     ensures { result ≡ printable c }
 {
-    c != b'"' && c != b'\\' && b' ' <= c && c <= b'~'
+    matches!(c, b' '..=b'~') && c != b'"' && c != b'\\'
 }
 
 // Whether all octets are shown as characters.
 fn all_printable(octets: &[u8]) -> bool
     ensures { result ≡ all_printable octets.now }
 {
-    for c in octets {
-        if !is_printable(*c) {
-            return false;
-        }
-    }
-    true
+    octets.iter().all(|&c| is_printable(c))
 }
 
-// Adds octets to a text as they are.
-pub(crate) fn push(text: &mut Vec<u8>, part: &[u8]) -> Result<(), AllocError>
-    ensures { OnOk result (text.new.items ≡ text.old.items ++ part.now) }
-{
-    text.extend_from_slice(part)
-}
-
-// Adds octets to a text: quoted where they are text, else in hexadecimal.
-fn push_octets(text: &mut Vec<u8>, octets: &[u8]) -> Result<(), AllocError>
-    ensures { OnOk result (text.new.items ≡ text.old.items ++ octets_text octets.now) }
+// The octets as text, where all of them are shown as characters.
+fn printable_text(octets: &[u8]) -> Option<&str>
+    ensures { MatchOption result (all_printable octets.now ≡ false) (λ text. (all_printable octets.now ≡ true) × (text.now ≡ octets.now)) }
 {
     if all_printable(octets) {
-        push(text, b"\"")?;
-        push(text, octets)?;
-        push(text, b"\"")?;
+        str::from_utf8(octets).ok()
     } else {
-        push(text, b"0x")?;
-        push_hex(text, octets)?;
+        None
     }
-    Ok(())
 }
 
-// Adds the data of an AVP to a text.
-fn push_value(heap: Global, text: &mut Vec<u8>, item: Item<'_>) -> Result<(), AllocError>
-    ensures { OnOk result (text.new.items ≡ text.old.items ++ value_text (held item.entry)) }
-{
-    match item {
-        Item::Number(n) => {
-            let digits = format!(in heap; "{n}")?;
-            push(text, digits.as_bytes())
+// The data of an AVP: a number, or octets, quoted where they are text, else in hexadecimal.
+#[derive(Clone, Copy)]
+struct Data<'a>(Item<'a>);
+
+impl fmt::Display for Data<'_> {
+    ghost output = { λ it. Some (value_text (held it.0)) };
+
+    fn fmt<W: fmt::Write>(&self, f: &mut fmt::Formatter<W>) -> fmt::Result {
+        match self.0 {
+            Item::Number(n) => write!(f, "{n}"),
+            Item::Octets(octets) => match printable_text(octets) {
+                Some(text) => write!(f, "\"{text}\""),
+                None => write!(f, "0x{}", Hex(octets)),
+            },
+            Item::Group(_) => write!(f, "group"),
         }
-        Item::Octets(octets) => push_octets(text, octets),
-        Item::Group(_) => push(text, b"group"),
     }
 }
 
-// The offset and the fields of an AVP, up to its flags.
-fn fields_text(heap: Global, entry: &Entry<Part>) -> Result<String, AllocError>
-    ensures { IfOk result (λ s. string_bytes s ≡ fields_of entry.now) }
-{
-    let offset = entry.offset;
-    let code = entry.code;
-    let vendor = entry.vendor;
-    format!(in heap; "{offset}: code {code} vendor {vendor} flags 0x")
+// The line of an AVP.
+#[derive(Clone, Copy)]
+pub(crate) struct Line<'a> {
+    pub(crate) entry: &'a Entry<Part>,
+    pub(crate) item: Item<'a>,
 }
 
-// Adds what stands before the data of an AVP to a text.
-fn push_head(heap: Global, text: &mut Vec<u8>, entry: &Entry<Part>) -> Result<(), AllocError>
-    ensures { OnOk result (text.new.items ≡ text.old.items ++ head_of entry.now) }
-{
-    let fields = fields_text(heap, entry)?;
-    push(text, indent(entry.place))?;
-    push(text, fields.as_bytes())?;
-    push_hex(text, &[entry.flags])?;
-    Ok(())
-}
+impl fmt::Display for Line<'_> {
+    ghost output = { λ line. Some (line_of line.entry.now (held line.item)) };
 
-// Adds the line of an AVP to a text.
-pub(crate) fn push_line(
-    heap: Global,
-    text: &mut Vec<u8>,
-    entry: &Entry<Part>,
-    item: Item<'_>,
-) -> Result<(), AllocError>
-    ensures { OnOk result (text.new.items ≡ text.old.items ++ line_of entry.now (held item.entry)) }
-{
-    push_head(heap, text, entry)?;
-    push(text, b" ")?;
-    push_value(heap, text, item)?;
-    push(text, b"\n")?;
-    Ok(())
+    #[tactic(auto, unfolding(crate::specs::Lines::line_of))]
+    fn fmt<W: fmt::Write>(&self, f: &mut fmt::Formatter<W>) -> fmt::Result {
+        let Entry {
+            place,
+            offset,
+            code,
+            vendor,
+            flags,
+            ..
+        } = *self.entry;
+        let indent = indent(place);
+        writeln!(
+            f,
+            "{indent}{offset}: code {code} vendor {vendor} flags 0x{} {}",
+            Hex(&[flags]),
+            Data(self.item)
+        )
+    }
 }

@@ -5,7 +5,7 @@
 ghost use Rattle.std.specs.Prelude.{◌≡◌};
 ghost use Rattle.framing_cases.specs.Verdict.{verdict};
 
-use anyhow::anyhow;
+use anyhow::Context;
 use diameter_checks::check_framing;
 use diameter_headers::check_length;
 use gx_dictionary::Part;
@@ -25,10 +25,9 @@ fn judge(octets: &[u8]) -> Result<(), Fault>
 fn print_verdict(rt: &HostRuntime, name: &str, octets: &[u8]) -> io::Result<()> {
     match judge(octets) {
         Ok(()) => println!(rt; "{name}: well framed"),
-        Err(fault) => {
-            let number = fault.refusal.number();
-            let code = fault.refusal.code();
-            let offset = fault.offset;
+        Err(Fault { refusal, offset }) => {
+            let number = refusal.number();
+            let code = refusal.code();
             println!(rt; "{name}: refusal {number}, code {code}, at offset {offset}")
         }
     }
@@ -36,12 +35,10 @@ fn print_verdict(rt: &HostRuntime, name: &str, octets: &[u8]) -> io::Result<()> 
 
 // Runs one line of the table.
 fn run_case(rt: &HostRuntime, line: &str) -> anyhow::Result<()> {
-    let Some((name, hex)) = line.split_once(' ') else {
-        return Err(anyhow!("a line has no space"));
-    };
-    let Ok(octets) = read_hex(rt.alloc(), hex.as_bytes()) else {
-        return Err(anyhow!("a line is not hexadecimal"));
-    };
+    let (name, hex) = line.split_once(' ').context("a line has no space")?;
+    let octets = read_hex(rt.alloc(), hex.as_bytes())
+        .ok()
+        .context("a line is not hexadecimal")?;
     print_verdict(rt, name, octets.as_slice())?;
     Ok(())
 }

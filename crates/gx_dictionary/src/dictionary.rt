@@ -5,7 +5,7 @@ use diameter_headers::{Kind, Place};
 
 // Where an AVP can stand in a Gx message: in the message itself, in an Experimental-Result (297), in a Charging-Rule-Remove
 // (1002), in a Charging-Rule-Install (1001), or in a Charging-Rule-Definition (1003).
-#[derive(Clone, Copy)]
+#[derive(Clone, Copy, PartialEq, Eq, Debug)]
 pub enum Part {
     Message,
     ExperimentalResult,

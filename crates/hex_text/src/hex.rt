@@ -1,22 +1,43 @@
-ghost use Rattle.std.specs.Prelude.{◌≡◌, ◌<◌, ◌++◌, IfSome, vec_items, OnOk};
-ghost use Rattle.hex_text.specs.Hex.{HexRead, digit, digit_value, hex_text, is_blank};
+ghost use Rattle.std.specs.Prelude.{◌≡◌, ◌<◌, ◌++◌, IfSome, Some, vec_items, OnOk};
+ghost use Rattle.hex_text.specs.Errors.{error_text};
+ghost use Rattle.hex_text.specs.Hex.{HexRead, digit_value, hex_text, is_blank};
+ghost use Rattle.hex_text.specs.declared.hex.HexError.TheVariants.{NoMemory};
 
-use std::alloc::{AllocError, Global};
+use std::alloc::{AllocError, AllocFailed, Global};
+use std::error::Error;
+use std::fmt;
+use std::io::Write;
 
 // Why a text is no octets in hexadecimal.
-#[derive(Clone, Copy)]
+#[derive(Clone, Copy, PartialEq, Eq, Debug)]
 pub enum HexError {
     NotADigit(usize),
     HalfOctet,
     NoMemory,
 }
 
-// The digit of a number below 16.
-fn hex_digit(n: u8) -> u8
-    requires { n < 16 }
-    ensures { result ≡ digit n }
-{
-    if n < 10 { b'0' + n } else { b'a' + (n - 10) }
+impl fmt::Display for HexError {
+    ghost output = { λ error. Some (error_text error) };
+
+    fn fmt<W: fmt::Write>(&self, f: &mut fmt::Formatter<W>) -> fmt::Result {
+        match self {
+            HexError::NotADigit(at) => {
+                write!(f, "no hexadecimal digit at character {at} of the input")
+            }
+            HexError::HalfOctet => write!(f, "the last octet has only one digit"),
+            HexError::NoMemory => write!(f, "not enough memory"),
+        }
+    }
+}
+
+impl Error for HexError {}
+
+impl<T: Drop> From<AllocFailed<T>> for HexError {
+    ghost from_gives = { λ _ error. error ≡ NoMemory };
+
+    fn from(_failed: AllocFailed<T>) -> Self {
+        Self::NoMemory
+    }
 }
 
 // The number that a hexadecimal digit stands for.
@@ -36,7 +57,7 @@ fn digit_value(c: u8) -> Option<u8>
 fn is_blank(c: u8) -> bool
     ensures { result ≡ is_blank c }
 {
-    c == b' ' || c == b'\t' || c == b'\n' || c == b'\r'
+    matches!(c, b' ' | b'\t' | b'\n' | b'\r')
 }
 
 // The octets of a hexadecimal text. Blanks are passed over.
@@ -52,15 +73,13 @@ pub fn read_hex(heap: Global, text: &[u8]) -> Result<Vec<u8>, HexError>
         let Some(digit) = digit_value(*c) else {
             return Err(HexError::NotADigit(at));
         };
-        match half {
-            None => half = Some(digit),
+        half = match half {
+            None => Some(digit),
             Some(high) => {
-                if octets.push(high * 16 + digit).is_err() {
-                    return Err(HexError::NoMemory);
-                }
-                half = None;
+                octets.push(high * 16 + digit)?;
+                None
             }
-        }
+        };
     }
     match half {
         None => Ok(octets),
@@ -68,13 +87,24 @@ pub fn read_hex(heap: Global, text: &[u8]) -> Result<Vec<u8>, HexError>
     }
 }
 
+// Octets that are shown in hexadecimal, two digits each.
+#[derive(Clone, Copy)]
+pub struct Hex<'a>(pub &'a [u8]);
+
+impl fmt::Display for Hex<'_> {
+    ghost output = { λ hex. Some (hex_text hex.0.now) };
+
+    fn fmt<W: fmt::Write>(&self, f: &mut fmt::Formatter<W>) -> fmt::Result {
+        for &octet in self.0 {
+            write!(f, "{octet:02x}")?;
+        }
+        Ok(())
+    }
+}
+
 // Adds octets to a text, two digits each.
 pub fn push_hex(text: &mut Vec<u8>, octets: &[u8]) -> Result<(), AllocError>
     ensures { OnOk result (text.new.items ≡ text.old.items ++ hex_text octets.now) }
 {
-    for octet in octets {
-        text.push(hex_digit(octet / 16))?;
-        text.push(hex_digit(octet % 16))?;
-    }
-    Ok(())
+    write!(text, "{}", Hex(octets)).map_err(|_| AllocError)
 }

@@ -3,4 +3,4 @@
 
 mod hex;
 
-pub use hex::{HexError, push_hex, read_hex};
+pub use hex::{Hex, HexError, push_hex, read_hex};

@@ -4,7 +4,7 @@ ghost use Rattle.refusals.specs.Faults.{fault_at};
 use crate::refusal::Refusal;
 
 // A refusal with the offset of the AVP at fault, 0 where it names none.
-#[derive(Clone, Copy, PartialEq, Debug)]
+#[derive(Clone, Copy, PartialEq, Eq, Debug)]
 pub struct Fault {
     pub refusal: Refusal,
     pub offset: usize,

@@ -1,8 +1,11 @@
-ghost use Rattle.std.specs.Prelude.{◌≡◌, ◌==◌, Decides};
+ghost use Rattle.std.specs.Prelude.{◌≡◌, ◌==◌, Decides, Some};
 ghost use Rattle.refusals.specs.Meanings.{meaning};
+ghost use Rattle.refusals.specs.Texts.{refusal_text};
 ghost use Rattle.refusals.specs.declared.refusal.Refusal.{Refusal};
 ghost use Rattle.std.specs.Cmp.Rules.{comparing};
 ghost use Rattle.std.proofs.Common.{rules};
+
+use std::fmt;
 
 // The layer that a refusal comes from.
 #[derive(Clone, Copy, PartialEq, Eq, Debug)]
@@ -16,7 +19,7 @@ pub enum Layer {
 }
 
 // Every reason for which a call is refused, in the order in which the questions are put.
-#[derive(Clone, Copy, Debug)]
+#[derive(Clone, Copy, Eq, Debug)]
 pub enum Refusal {
     BearerNumber,
     State,
@@ -108,13 +111,30 @@ impl Refusal {
     pub fn layer(self) -> Layer
         ensures { result ≡ (meaning self).layer }
     {
-        match self.number() {
-            0..=6 => Layer::Call,
-            7..=12 => Layer::Framing,
-            13..=16 => Layer::Grammar,
-            17..=18 => Layer::Session,
-            19..=21 => Layer::Rules,
-            _ => Layer::Configuration,
+        match self {
+            Refusal::BearerNumber
+            | Refusal::State
+            | Refusal::TextLength
+            | Refusal::TriggerNotArmed
+            | Refusal::UpdatesSpent
+            | Refusal::NoSpace => Layer::Call,
+            Refusal::MessageLength
+            | Refusal::Version
+            | Refusal::Command
+            | Refusal::HeaderFlags
+            | Refusal::Application
+            | Refusal::AvpLength => Layer::Framing,
+            Refusal::UnknownMandatory
+            | Refusal::ValueRange
+            | Refusal::TooOften
+            | Refusal::Missing => Layer::Grammar,
+            Refusal::SessionId | Refusal::NotAwaited => Layer::Session,
+            Refusal::RuleContent | Refusal::TooManyMembers | Refusal::StoreFull => Layer::Rules,
+            Refusal::ConfigurationParts
+            | Refusal::ConfigurationCounts
+            | Refusal::ConfigurationRule
+            | Refusal::ConfigurationNames
+            | Refusal::ConfigurationGroup => Layer::Configuration,
         }
     }
 
@@ -144,5 +164,16 @@ impl PartialEq for Refusal {
         ensures equal { Decides result (self.now ≡ other.now) }
     {
         self.number() == other.number()
+    }
+}
+
+// For people: the number, and the code that a peer would be told.
+impl fmt::Display for Refusal {
+    ghost output = { λ refusal. Some (refusal_text refusal) };
+
+    fn fmt<W: fmt::Write>(&self, f: &mut fmt::Formatter<W>) -> fmt::Result {
+        let number = self.number();
+        let code = self.code();
+        write!(f, "refusal {number}, Diameter code {code}")
     }
 }

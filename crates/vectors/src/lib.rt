@@ -83,6 +83,7 @@ mod tests {
     use diameter_writer::write_message;
     use dump::message_text;
     use gx_dictionary::Part;
+    use hex_text::{HexError, push_hex, read_hex};
     use refusals::{Fault, Refusal};
     use std::test::Fail;
 
@@ -161,6 +162,27 @@ mod tests {
         assert!(rt;
             text.as_slice()
                 == b"version 1 length 36 of 35 command 272 flags 0x40\napplication 16777224 hop-by-hop 1 end-to-end 2\nfault at 0: the header says 36 octets, the message has 35 (refusal 7, Diameter code 5015)\n20: code 263 vendor 0 flags 0x40 \"s;1\"\nfault at 32: the AVP does not fit, does not cover its header, or is a number without four octets (refusal 12, Diameter code 5014)\n".as_slice()
+        );
+        Ok(())
+    }
+
+    #[test]
+    fn writes_and_reads_hexadecimal(rt: HostRuntime) -> Result<(), Fail> {
+        let mut text = Vec::new(rt.alloc());
+        push_hex(&mut text, b"\x00\x9f\xe1")?;
+        assert!(rt; text.as_slice() == b"009fe1".as_slice());
+        let octets = read_hex(rt.alloc(), b"00 9F\te1\n")?;
+        assert!(rt; octets.as_slice() == b"\x00\x9f\xe1".as_slice());
+        Ok(())
+    }
+
+    #[test]
+    fn says_what_is_no_hexadecimal(rt: HostRuntime) -> Result<(), Fail> {
+        let error = HexError::NotADigit(2);
+        assert!(rt; read_hex(rt.alloc(), b"00g0").err() == Some(error));
+        assert!(rt;
+            error.to_string(rt.alloc())?.as_str()
+                == "no hexadecimal digit at character 2 of the input"
         );
         Ok(())
     }

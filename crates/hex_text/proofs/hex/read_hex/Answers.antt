@@ -1,7 +1,7 @@
-use Rattle.std.proofs.Common.{◌+◌, vec_items, sym, ◌∙◌, subst}
-use Rattle.hex_text.proofs.Digits.{Reading, blank_more, no_digit, first_half, second_half, read_whole, read_half, grew}
+use Rattle.std.proofs.Common.{sym, ◌∙◌}
+use Rattle.hex_text.proofs.Digits.{blank_more, no_digit, first_half, second_half, read_whole, read_half}
 use Rattle.hex_text.proofs.hex.read_hex.Goals as goal
-use Rattle.hex_text.proofs.hex.read_hex.Goals.{in-None, in-Some-half+else-is_err}
+use Rattle.hex_text.proofs.hex.read_hex.Goals.{in-None, in-Some-half+in_ok-push-in-Some-half}
 
 pub loop-at-preserved-then-is_blank : goal.loop-at-preserved-then-is_blank
 loop-at-preserved-then-is_blank c = blank_more _ _ _ _ c.loop-at.invariant c.loop-at-test.true (sym c.is_blank.ensures ∙ c.if-is_blank.true)
@@ -11,14 +11,12 @@ returns-in_default c = no_digit _ _ _ _ c.loop-at.invariant c.loop-at-test.true 
 
 pub loop-at-preserved : goal.loop-at-preserved
 loop-at-preserved c =
-    let text = c.args.text.now in
-    let next = c.loop-at.at + 1 in
     let here = c.loop-at-test.true in
-    let no-blank = sym c.is_blank.ensures ∙ c.if-is_blank.false in
+    let shown = sym c.is_blank.ensures ∙ c.if-is_blank.false in
     let digit = c.in-Some.ensures in
     elim c.match-half.branch [
-      | in-None w ↦ subst (λ o. Reading text (vec_items o) c.match-half.half next) (sym w.octets-is) (subst (λ h. Reading text (vec_items c.loop-at.octets) h next) (sym w.half-is) (first_half _ _ _ _ c.loop-at.invariant here no-blank c.in-Some.digit digit.value digit.small w.in-None.is))
-      | in-Some-half+else-is_err w ↦ subst (λ o. Reading text (vec_items o) c.match-half.half next) (sym w.octets-is) (subst (λ h. Reading text (vec_items w.push.new.self) h next) (sym w.half-is) (second_half _ _ _ _ c.loop-at.invariant here no-blank c.in-Some.digit w.in-Some-half.high digit.value w.in-Some-half.is _ (grew w.push.result _ _ _ (sym w.is_err.ensures.value ∙ w.if-is_err.false) w.push.ensures.items)))
+      | in-None w ↦ rw (w.octets-is, w.half-is) (first_half _ _ _ _ c.loop-at.invariant here shown c.in-Some.digit digit.value digit.small w.in-None.is)
+      | in-Some-half+in_ok-push-in-Some-half w ↦ rw (w.octets-is, w.half-is) (second_half _ _ _ _ c.loop-at.invariant here shown c.in-Some.digit w.in-Some-half.high digit.value w.in-Some-half.is _ w.in_ok-push-in-Some-half.ensures.items)
     ]
 
 pub returns-in-None-half : goal.returns-in-None-half
