@@ -71,9 +71,10 @@ impl<'a, K: Key + Copy, R: Copy> Store for Flat<'a, K, R> {
     }
 
     fn put(&mut self, key: K, value: R) -> Result<(), StoreFull> {
+        let room = self.rows.len();
         match self.place_of(&key) {
             Some(i) => self.rows[i] = Row { key, value },
-            None if self.used < self.rows.len() => {
+            None if self.used < room => {
                 self.rows[self.used] = Row { key, value };
                 self.used += 1;
             }

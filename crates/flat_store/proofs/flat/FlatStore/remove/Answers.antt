@@ -1,4 +1,4 @@
-use Rattle.std.proofs.Common.{◌≡◌, ◌-◌, get_or, arith}
+use Rattle.std.proofs.Common.{◌-◌, arith}
 use Rattle.std.proofs.lemmas.List.{get_or_default}
 use Rattle.stores.proofs.Changes.{less_dense, removed_one, removed_none}
 use Rattle.flat_store.proofs.flat.FlatStore.remove.Goals as goal
