@@ -1,10 +1,11 @@
 -- The order of two lists of octets, by one octet of each.
-use Rattle.std.proofs.Common.{◌≡◌, ℕ, ◌+◌, ◌<◌, ◌≤◌, List, [], ◌∷◌, length, get_or, drop, Less, Equal, Greater, ◌∙◌, arith}
+use Rattle.std.proofs.Common.{◌≡◌, ℕ, ◌+◌, ◌<◌, ◌≤◌, List, [], ◌∷◌, length, get_or, drop, Less, Equal, Greater, ◌∙◌}
 use Rattle.std.proofs.lemmas.List.{at_drop_more, at_drop_all}
 use Rattle.std.proofs.lemmas.Bool.Decides.{nat_tests}
-use Rattle.names.specs.Order.{lexical, by_number}
+use Rattle.std.specs.Ordering.{ordering_then, nat_cmp}
+use Rattle.names.specs.Order.{lexical}
 
-pub lexical_at : (a b : List ℕ) (i : ℕ) → i < length a → i < length b → lexical (drop i a) (drop i b) ≡ by_number (get_or a i 0) (get_or b i 0) (lexical (drop (i + 1) a) (drop (i + 1) b))
+pub lexical_at : (a b : List ℕ) (i : ℕ) → i < length a → i < length b → lexical (drop i a) (drop i b) ≡ ordering_then (nat_cmp (get_or a i 0) (get_or b i 0)) (lexical (drop (i + 1) a) (drop (i + 1) b))
 lexical_at a b i h k =
     at_drop_more (λ xs. lexical xs (drop i b)) a i 0 h ∙ at_drop_more (λ ys. lexical (get_or a i 0 ∷ drop (i + 1) a) ys) b i 0 k
 
@@ -19,11 +20,4 @@ lexical_shorter a b i h k =
 pub lexical_level : (a b : List ℕ) (i : ℕ) → length a ≤ i → length b ≤ i → lexical (drop i a) (drop i b) ≡ Equal
 lexical_level a b i h k = at_drop_all (λ xs. lexical xs (drop i b)) a i h ∙ at_drop_all (λ ys. lexical [] ys) b i k
 
-pub lexical_less : (a b : List ℕ) (i : ℕ) → i < length a → i < length b → get_or a i 0 < get_or b i 0 → lexical (drop i a) (drop i b) ≡ Less
-lexical_less a b i h k l = let e = lexical_at a b i h k in grind (arith, nat_tests)
-
-pub lexical_more : (a b : List ℕ) (i : ℕ) → i < length a → i < length b → get_or b i 0 < get_or a i 0 → lexical (drop i a) (drop i b) ≡ Greater
-lexical_more a b i h k l = let e = lexical_at a b i h k in grind (arith, nat_tests)
-
-pub lexical_same : (a b : List ℕ) (i : ℕ) → i < length a → i < length b → get_or a i 0 ≤ get_or b i 0 → get_or b i 0 ≤ get_or a i 0 → lexical (drop i a) (drop i b) ≡ lexical (drop (i + 1) a) (drop (i + 1) b)
-lexical_same a b i h k l m = let e = lexical_at a b i h k in grind (arith, nat_tests)
+pub ruleset steps = (lexical_at, lexical_longer, lexical_shorter, lexical_level, nat_tests)
