@@ -73,7 +73,7 @@ fn run_kind<K: Key + Copy>(rt: &HostRuntime, what: &str, keys: &[K; KEYS]) -> an
     let Some(chained) = Chained::over(&mut chained_rows, &mut links) else {
         return Err(anyhow!("there is no link for a bucket"));
     };
-    let Some(mut pair) = Pair::new(Flat::over(&mut flat_rows), chained, scratch) else {
+    let Some(mut pair) = Pair::matched(Flat::over(&mut flat_rows), chained, scratch) else {
         return Err(anyhow!("the stores have not the same room"));
     };
     println!(rt; "{what}")?;

@@ -27,7 +27,7 @@ impl<
     B: Store<Key = K, Record = u32> + Drop,
 > Pair<K, A, B> {
     // The pair of two stores that have no key and the same room; none of others. The scratch is any key.
-    pub fn new(one: A, other: B, scratch: K) -> Option<Self>
+    pub fn matched(one: A, other: B, scratch: K) -> Option<Self>
         ensures alike { Empty (A.Store.holds one) → Empty (B.Store.holds other) → A.Store.most one ≡ B.Store.most other → is_some result ≡ true }
         ensures made { IfSome result (λ p. (p.one ≡ one) × (p.other ≡ other) × Empty (A.Store.holds p.one)) }
     {
