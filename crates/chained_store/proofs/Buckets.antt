@@ -8,7 +8,7 @@ use Rattle.chained_store.specs.Buckets.{hashes, bucket_of, chain_of}
 use Rattle.chained_store.specs.Chains.{LinksLead, LinksPassNone, Chains, InOrder, Below}
 use Rattle.chained_store.specs.Entering.{Before, Leads, But, With}
 use Rattle.stores.specs.Functions.{Removed}
-use Rattle.stores.specs.Places.{Place}
+use Rattle.stores.specs.Places.{Here}
 use Rattle.stores.specs.Rows.{Dense, held}
 use Rattle.stores.proofs.Changes.{over_dense, over_keys, less_dense, removed_one}
 use Rattle.chained_store.proofs.Relinking.{unlinked_lead, unlinked_pass, linked_lead, linked_pass}
@@ -91,13 +91,12 @@ module _ {K R : Type 0} (digest : K → ℕ) (rows : List (Row K R)) (links : Li
       }
 
   -- one step along a chain
-  pub link_next : (n p : ℕ) → Chains digest rows links (Below n) → p < length links → (p < length rows → p < n)
-      → (get_or links p 0 ≤ n) × (get_or links p 0 ≤ p) × (0 < get_or links p 0 → chain_of (hashes digest rows) (length links) (get_or links p 0 - 1) ≡ chain_of (hashes digest rows) (length links) p)
-  link_next n p c a own =
+  pub link_falls : (n p : ℕ) → Chains digest rows links (Below n) → p < length links → (p < length rows → p < n) → (get_or links p 0 ≤ n) × (get_or links p 0 ≤ p)
+  link_falls n p c a own =
       ⊎_elim
       (λ (z : 0 < get_or links p 0). (let e : get_or links p 0 ≡ (get_or links p 0 - 1) + 1 = omega arith in
-      let s = c.lead p (get_or links p 0 - 1) (a, own, e) in (omega (arith, s.1), omega (arith, s.0), λ _. s.2)))
-      (λ z. (omega arith, omega arith, λ y. absurd (omega arith)))
+      let s = c.lead p (get_or links p 0 - 1) (a, own, e) in (omega (arith, s.1), omega (arith, s.0))))
+      (λ z. (omega arith, omega arith))
       (cases_lt 0 (get_or links p 0))
 
   pub chain_of_key : (j : ℕ) (d : Row K R) (k : K) → j < length rows → (get_or rows j d).key ≡ k → chain_of (hashes digest rows) (length links) j ≡ bucket_of (digest k) (length rows) (length links)
@@ -138,11 +137,11 @@ module _ {K R : Type 0} (digest : K → ℕ) (rows : List (Row K R)) (links : Li
   chains_back n i b c = chains_like digest rows links (With n i) (Below n) (λ j a. ⊎_elim (λ (e : j ≡ i). omega arith) (λ f. a f) (cases_eq j i)) (λ j a f. a) c
 
   -- a key's row is written over
-  pub over_in_order : (e : K → K → Bool) (equal : (x y : K) → Decides (e x y) (x ≡ y)) (n i : ℕ) (x : Row K R) → i < n → Place rows n x.key i → InOrder digest rows links n → InOrder digest (set rows i x) links n
-  over_in_order e equal n i x a p w = record {
-    dense = over_dense e equal rows n w.dense i x a p;
+  pub over_in_order : (e : K → K → Bool) (equal : (x y : K) → Decides (e x y) (x ≡ y)) (n i : ℕ) (x : Row K R) → Here rows n x.key i → InOrder digest rows links n → InOrder digest (set rows i x) links n
+  over_in_order e equal n i x p w = record {
+    dense = over_dense e equal rows n w.dense i x p;
     chains = chains_rows digest rows links (set rows i x) (Below n) (length-set rows i x)
-        (λ q own. chain_kept digest rows (set rows i x) (length links) (length-set rows i x) q x (λ b. ap digest (over_keys e equal rows n w.dense i x a p q x))) w.chains;
+        (λ q own. chain_kept digest rows (set rows i x) (length links) (length-set rows i x) q x (λ b. ap digest (over_keys e equal rows n w.dense i x p q x))) w.chains;
   }
 
 -- links that are all 0 are chains of no rows
@@ -161,27 +160,27 @@ none_in_order digest rows w a =
 
 -- the last row has taken the place of the one that goes; the rows and their number after it are given by what they equal
 module _ {K R : Type 0} (digest : K → ℕ) (e : K → K → Bool) (equal : (x y : K) → Decides (e x y) (x ≡ y)) (rows : List (Row K R)) (n : ℕ) (h : Dense rows n)
-    (i : ℕ) (k : K) (a : i < n) (at : Place rows n k i)
+    (i : ℕ) (k : K) (at : Here rows n k i)
     (rows' : List (Row K R)) (links : List ℕ) (n' : ℕ) (same : (d : Row K R) → rows' ≡ set rows i (get_or rows (n - 1) d)) (less : n' ≡ n - 1) where
   row : Row K R
-  row = some_row rows (let l = h.fits in omega arith)
+  row = some_row rows (let l = h.fits in let a = at.within in omega arith)
 
   last : (d : Row K R) → get_or rows (n - 1) row ≡ get_or rows (n - 1) d
-  last d = get_or_default rows (n - 1) row d (let l = h.fits in omega arith)
+  last d = get_or_default rows (n - 1) row d (let l = h.fits in let a = at.within in omega arith)
 
   abbrev rows_less : List (Row K R)
   rows_less = set rows i (get_or rows (n - 1) row)
 
   pub less_in_order : Chains digest rows' links (Below (n - 1)) → InOrder digest rows' links n'
   less_in_order c = record {
-    dense = subst (λ v. Dense v n') (sym (same row)) (subst (λ m. Dense rows_less m) (sym less) (less_dense e equal rows n h i k (get_or rows (n - 1) row) a at last));
+    dense = subst (λ v. Dense v n') (sym (same row)) (subst (λ m. Dense rows_less m) (sym less) (less_dense e equal rows n h i k (get_or rows (n - 1) row) at last));
     chains = rw less c;
   }
 
   pub less_removed : Removed e (held e rows n) k true (held e rows' n')
   less_removed =
       subst (λ v. Removed e (held e rows n) k true (held e v n')) (sym (same row))
-      (subst (λ m. Removed e (held e rows n) k true (held e rows_less m)) (sym less) (removed_one e equal rows n h i k (get_or rows (n - 1) row) a at last))
+      (subst (λ m. Removed e (held e rows n) k true (held e rows_less m)) (sym less) (removed_one e equal rows n h i k (get_or rows (n - 1) row) at last))
 
   pub less_room : length rows' ≡ length rows
   less_room = ap length (same row) ∙ length-set rows i (get_or rows (n - 1) row)

@@ -5,12 +5,12 @@ use Rattle.stores.specs.declared.row.Row.{Row}
 use Rattle.chained_store.specs.Buckets.{chain_of, hashes, bucket_of}
 use Rattle.chained_store.specs.Chains.{InOrder}
 use Rattle.chained_store.specs.Entering.{Leads}
-use Rattle.chained_store.proofs.Buckets.{bucket_in, chain_of_bucket, chain_of_row, chain_of_key, link_next}
+use Rattle.chained_store.proofs.Buckets.{bucket_in, chain_of_bucket, chain_of_row, chain_of_key, link_falls}
 
 -- the link is to a row of the key's bucket, and each row that has the key is on what is left of the chain
 pub record Seeking {K R : Type 0} (digest : K → ℕ) (rows : List (Row K R)) (links : List ℕ) (n : ℕ) (k : K) (link : ℕ) : Type 0 where
   pub low : link ≤ n
-  pub chain : 0 < link → chain_of (hashes digest rows) (length links) (link - 1) ≡ bucket_of (digest k) (length rows) (length links)
+  pub chain : (i : ℕ) → link ≡ i + 1 → chain_of (hashes digest rows) (length links) i ≡ bucket_of (digest k) (length rows) (length links)
   pub ahead : (j : ℕ) (d : Row K R) → j < n → (get_or rows j d).key ≡ k → j < link
 
 -- the place is on the chain of the row x, and after x
@@ -28,37 +28,41 @@ module _ {K R : Type 0} (digest : K → ℕ) (rows : List (Row K R)) (links : Li
       let a : p < length links = bucket_in (digest k) (length rows) (length links) ch.wide in
       let own : p < length rows → p < n = λ z. absurd (omega arith) in
       let t = chain_of_bucket digest rows (length links) p (omega arith) in
-      let next = link_next digest rows links n p ch a own in
       record {
-        low = next.0;
-        chain = λ z. next.2 z ∙ t;
+        low = (link_falls digest rows links n p ch a own).0;
+        chain = λ i e. (ch.lead p i (a, own, e)).2 ∙ t;
         ahead = λ j d z q. (let f : j < length rows = ch.low j z in ch.pass p j (a, own, z, omega arith, chain_of_key digest rows links j d k f q ∙ sym t));
       }
 
-  module _ (link : ℕ) (z : 0 < link) (k : K) (s : InOrder digest rows links n) (w : Seeking digest rows links n k link) where
-    row_in_use : link - 1 < n
-    row_in_use = let l = w.low in omega arith
+  -- the row i that a link is to
+  module _ (link i : ℕ) (to : (1 ≤ link) × (i ≡ link - 1)) (k : K) (s : InOrder digest rows links n) (w : Seeking digest rows links n k link) where
+    in_use : i < n
+    in_use = omega (arith, to.0, to.1, w.low)
 
-    pub row_there : link - 1 < length rows
-    row_there = s.chains.low (link - 1) row_in_use
+    pub row_there : i < length rows
+    row_there = s.chains.low i in_use
 
-    pub link_there : link - 1 < length links
-    link_there = let a = row_there in let b = s.chains.wide in omega arith
+    pub link_there : i < length links
+    link_there = omega (arith, row_there, s.chains.wide)
 
-    pub seek_falls : get_or links (link - 1) 0 < link
-    seek_falls = omega (arith, (link_next digest rows links n (link - 1) s.chains link_there (λ _. row_in_use)).1)
+    own : i < length rows → i < n
+    own _ = in_use
 
-    pub seek_next : ((d : Row K R) → (get_or rows (link - 1) d).key ≡ k → ⊥) → Seeking digest rows links n k (get_or links (link - 1) 0)
-    seek_next other =
-        let own : link - 1 < length rows → link - 1 < n = λ _. row_in_use in
-        let next = link_next digest rows links n (link - 1) s.chains link_there own in
-        record {
-          low = next.0;
-          chain = λ y. next.2 y ∙ w.chain z;
-          ahead = λ j d y q. (let m = w.ahead j d y q in
-              let ne : j ≢ link - 1 = λ i. other d (ap (λ v. (get_or rows v d).key) (sym i) ∙ q) in
-              s.chains.pass (link - 1) j (link_there, own, y, omega arith, chain_of_key digest rows links j d k (s.chains.low j y) q ∙ sym (w.chain z)));
-        }
+    chain : chain_of (hashes digest rows) (length links) i ≡ bucket_of (digest k) (length rows) (length links)
+    chain = w.chain i (omega (arith, to.0, to.1))
+
+    pub seek_falls : get_or links i 0 < link
+    seek_falls = omega (arith, to.0, to.1, (link_falls digest rows links n i s.chains link_there own).1)
+
+    pub seek_next : ((d : Row K R) → (get_or rows i d).key ≢ k) → Seeking digest rows links n k (get_or links i 0)
+    seek_next other = record {
+      low = (link_falls digest rows links n i s.chains link_there own).0;
+      chain = λ j e. (s.chains.lead i j (link_there, own, e)).2 ∙ chain;
+      ahead = λ j d y q. (let m = w.ahead j d y q in
+          let ne : j ≢ i = λ e. other d (ap (λ v. (get_or rows v d).key) (sym e) ∙ q) in
+          let b : j < i = omega (arith, to.0, to.1) in
+          s.chains.pass i j (link_there, own, y, b, chain_of_key digest rows links j d k (s.chains.low j y) q ∙ sym chain));
+    }
 
   module _ (x : ℕ) where
     pub near_first : (d : Row K R) → x < length rows → length rows < length links → Nearing digest rows links n x (bucket_of (digest (get_or rows x d).key) (length rows) (length links))

@@ -29,8 +29,7 @@ pub record InOrder {K R : Type 0} (digest : K → ℕ) (rows : List (Row K R)) (
   pub dense : Dense rows n
   pub chains : Chains digest rows links (Below n)
 
--- a new store over that many rows: in order, and with no key
-pub record New {K R : Type 0} (like : K → K → Bool) (digest : K → ℕ) (room : ℕ) (rows : List (Row K R)) (links : List ℕ) (n : ℕ) : Type 0 where
-  pub sound : InOrder digest rows links n
+-- a new store over that many rows: it has no key
+pub record New {K R : Type 0} (like : K → K → Bool) (room : ℕ) (rows : List (Row K R)) (n : ℕ) : Type 0 where
   pub empty : Empty (held like rows n)
   pub room_is : length rows ≡ room

@@ -1,33 +1,60 @@
-ghost use Rattle.std.specs.Prelude.{◌≤◌, length, take, MatchOption};
+ghost use Rattle.std.specs.Prelude.{◌≡◌, ◌≤◌, length, take, MatchOption};
+ghost use Rattle.stores.specs.Places.{Place};
 ghost use Rattle.stores.specs.Rows.{held, keys_of};
 ghost use Rattle.stores.proofs.Numbered.{rows_number};
 ghost use Rattle.chained_store.specs.Chains.{InOrder, New};
 
+use crate::links::Linked;
 use keys::Key;
-use stores::{Row, Store, read_key, read_record};
+use stores::{Row, Store, StoreFull, fill};
 
-// The rows and links that the caller lends, and how many rows are in use, from the first on.
+// Rows in use of which no two have one key, and each of which is in the chain of its bucket.
 #[derive(Drop)]
 pub struct Chained<'a, K: Key + Copy, R: Copy> {
-    pub(crate) rows: &'a mut [Row<K, R>],
-    pub(crate) links: &'a mut [usize],
-    pub(crate) used: usize,
+    linked: Linked<'a, K, R>,
+    ghost in_order: { InOrder K.Key.digest linked.rows.now linked.links.now linked.used },
 }
 
 impl<'a, K: Key + Copy, R: Copy> Chained<'a, K, R> {
     // A store with no key, whose room is the number of the rows; each link past theirs is a bucket's. None where there is no bucket.
     pub fn over(rows: &'a mut [Row<K, R>], links: &'a mut [usize]) -> Option<Self>
-        ensures { MatchOption result (length links.old ≤ length rows.old) (λ s. New K.Key.alike K.Key.digest (length rows.old) s.rows.now s.links.now s.used) }
+        ensures { MatchOption result (length links.old ≤ length rows.old) (λ s. New K.Key.alike (length rows.old) s.linked.rows.now s.linked.used) }
     {
         if links.len() <= rows.len() {
             return None;
         }
         links.fill(0);
         Some(Chained {
-            rows,
-            links,
-            used: 0,
+            linked: Linked {
+                rows,
+                links,
+                used: 0,
+            },
         })
+    }
+
+    // The place of the key's row among those in use.
+    fn place_of(&self, key: &K) -> Option<usize>
+        ensures { Place self.now.linked.rows.now self.now.linked.used key.now result }
+    {
+        let rows: &[Row<K, R>] = self.linked.rows;
+        let links: &[usize] = self.linked.links;
+        let mut link = links[self.linked.bucket(key)];
+        while let Some(i) = link.checked_sub(1) {
+            if rows[i].key.is_like(key) {
+                return Some(i);
+            }
+            link = links[i];
+        }
+        None
+    }
+
+    // The key's record.
+    fn get(&self, key: &K) -> Option<R>
+        ensures { result ≡ (held K.Key.alike self.now.linked.rows.now self.now.linked.used).at key.now }
+    {
+        let i = self.place_of(key)?;
+        Some(self.linked.rows[i].value)
     }
 }
 
@@ -36,52 +63,42 @@ impl<'a, K: Key + Copy, R: Copy> Store for Chained<'a, K, R> {
 
     type Record = R;
 
-    ghost sound = { λ s. InOrder K.Key.digest s.rows.now s.links.now s.used };
+    ghost holds = { λ s. held K.Key.alike s.linked.rows.now s.linked.used };
 
-    ghost holds = { λ s. held K.Key.alike s.rows.now s.used };
+    ghost most = { λ s. length s.linked.rows.now };
 
-    ghost most = { λ s. length s.rows.now };
+    ghost keys = { λ s. keys_of (take s.linked.used s.linked.rows.now) };
 
-    ghost fits = { λ s h. h.dense.fits };
+    ghost fits = { λ s. s.in_order.dense.fits };
 
-    ghost keys = { λ s. keys_of (take s.used s.rows.now) };
-
-    ghost numbers = { λ s h. rows_number K.Key.alike K.Key.equal s.rows.now s.used h.dense };
+    ghost numbers = { λ s. rows_number K.Key.alike K.Key.equal s.linked.rows.now s.linked.used s.in_order.dense };
 
     fn room(&self) -> usize {
-        self.rows.len()
+        self.linked.rows.len()
     }
 
     fn find(&self, key: &K, place: &mut R) -> bool {
-        read_record(&self.rows[..self.used], self.place_of(key), place)
+        fill(place, self.get(key))
     }
 
-    fn put(&mut self, key: K, value: R) -> bool {
-        let used = self.used;
-        let i = self.place_of(&key);
-        if i < used {
-            self.rows[i] = Row { key, value };
-            true
-        } else if used < self.rows.len() {
-            self.rows[used] = Row { key, value };
-            self.link(used);
-            self.used = used + 1;
-            true
-        } else {
-            false
+    fn put(&mut self, key: K, value: R) -> Result<(), StoreFull> {
+        match self.place_of(&key) {
+            Some(i) => self.linked.rows[i] = Row { key, value },
+            None if self.linked.used < self.linked.rows.len() => self.linked.add(Row { key, value }),
+            None => return Err(StoreFull),
         }
+        Ok(())
     }
 
     fn remove(&mut self, key: &K) -> bool {
-        let i = self.place_of(key);
-        if i >= self.used {
+        let Some(i) = self.place_of(key) else {
             return false;
-        }
-        self.take_out(i);
+        };
+        self.linked.take_out(i);
         true
     }
 
     fn walk(&self, number: usize, place: &mut K) -> bool {
-        read_key(&self.rows[..self.used], number, place)
+        fill(place, self.linked.rows[..self.linked.used].get(number).map(|row| row.key))
     }
 }

@@ -1,42 +1,30 @@
-// The links of the rows: finding along a chain, and a row that enters its chain or leaves it.
-ghost use Rattle.std.specs.Prelude.{◌≡◌, ◌-◌, ◌<◌, ◌≤◌, length, slice_index_or, slice_set};
-ghost use Rattle.stores.specs.Places.{Place};
+ghost use Rattle.std.specs.Prelude.{◌≡◌, ◌+◌, ◌-◌, ◌<◌, ◌≤◌, length, slice_index_or, slice_set};
 ghost use Rattle.stores.specs.declared.row.Row.{Row as Entry};
 ghost use Rattle.chained_store.specs.Buckets.{bucket_of};
-ghost use Rattle.chained_store.specs.Chains.{InOrder, Chains, Below};
+ghost use Rattle.chained_store.specs.Chains.{Chains, Below};
 ghost use Rattle.chained_store.specs.Entering.{Before, Leads, But, With};
 
-use crate::chained::Chained;
 use keys::Key;
 use stores::Row;
 
-impl<'a, K: Key + Copy, R: Copy> Chained<'a, K, R> {
+// The rows and links that the caller lends, and how many rows are in use, from the first on. A row may be out of its chain
+// meanwhile.
+#[derive(Drop)]
+pub(crate) struct Linked<'a, K: Key + Copy, R: Copy> {
+    pub(crate) rows: &'a mut [Row<K, R>],
+    pub(crate) links: &'a mut [usize],
+    pub(crate) used: usize,
+}
+
+impl<'a, K: Key + Copy, R: Copy> Linked<'a, K, R> {
     // The place of the bucket that a key belongs to.
-    fn bucket(&self, key: &K) -> usize
+    pub(crate) fn bucket(&self, key: &K) -> usize
         requires { length self.now.rows.now < length self.now.links.now }
         ensures { result ≡ bucket_of (K.Key.digest key.now) (length self.now.rows.now) (length self.now.links.now) }
     {
         let room = self.rows.len();
         let buckets = self.links.len() - room;
         room + (key.hash() % buckets as u64) as usize
-    }
-
-    // The place of the key's row, or the number of those in use where it has none.
-    pub(crate) fn place_of(&self, key: &K) -> usize
-        requires { InOrder K.Key.digest self.now.rows.now self.now.links.now self.now.used }
-        ensures { Place self.now.rows.now self.now.used key.now result }
-    {
-        let rows: &[Row<K, R>] = self.rows;
-        let links: &[usize] = self.links;
-        let mut link = links[self.bucket(key)];
-        while link > 0 {
-            let i = link - 1;
-            if rows[i].key.is_like(key) {
-                return i;
-            }
-            link = links[i];
-        }
-        self.used
     }
 
     // The place whose link is to the row, or would be if the row were in its chain.
@@ -69,7 +57,7 @@ impl<'a, K: Key + Copy, R: Copy> Chained<'a, K, R> {
     }
 
     // Puts the row into its chain, which it is not in.
-    pub(crate) fn link(&mut self, x: usize)
+    fn link(&mut self, x: usize)
         requires row { x < length self.old.rows.now }
         requires chains { Chains K.Key.digest self.old.rows.now self.old.links.now (But self.old.used x) }
         ensures chains { Chains K.Key.digest self.new.rows.now self.new.links.now (With self.old.used x) }
@@ -103,6 +91,20 @@ impl<'a, K: Key + Copy, R: Copy> Chained<'a, K, R> {
         self.unlink(i);
         self.write(i, row);
         self.link(i);
+    }
+
+    // Puts a row behind those in use, and into its chain.
+    pub(crate) fn add(&mut self, row: Row<K, R>)
+        requires row { self.old.used < length self.old.rows.now }
+        requires chains { Chains K.Key.digest self.old.rows.now self.old.links.now (Below self.old.used) }
+        ensures chains { Chains K.Key.digest self.new.rows.now self.new.links.now (Below (self.old.used + 1)) }
+        ensures rows { self.new.rows.now ≡ slice_set self.old.rows.now self.old.used row }
+        ensures used { self.new.used ≡ self.old.used + 1 }
+    {
+        let x = self.used;
+        self.rows[x] = row;
+        self.link(x);
+        self.used += 1;
     }
 
     // Takes a row out, and lets the last row have its place.

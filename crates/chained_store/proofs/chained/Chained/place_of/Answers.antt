@@ -4,19 +4,19 @@ use Rattle.std.proofs.lemmas.Bool.{both_ways}
 use Rattle.chained_store.proofs.Following.{seek_first, seek_next, seek_falls, row_there}
 use Rattle.chained_store.proofs.chained.Chained.place_of.Goals as goal
 
-pub loop-link-init : goal.loop-link-init
-loop-link-init g c =
+pub loop-i-init : goal.loop-i-init
+loop-i-init g c =
     let s = c.args.self.now in
-    rw c.bucket.ensures (seek_first g.K.Key.digest s.rows.now s.links.now s.used c.args.key.now c.requires)
+    rw c.bucket.ensures (seek_first g.K.Key.digest s.linked.rows.now s.linked.links.now s.linked.used c.args.key.now s.in_order)
 
-pub loop-link-smaller : goal.loop-link-smaller
-loop-link-smaller g c =
+pub loop-i-smaller : goal.loop-i-smaller
+loop-i-smaller g c =
     let s = c.args.self.now in
-    seek_falls g.K.Key.digest s.rows.now s.links.now s.used c.loop-link.link c.loop-link-test.true c.args.key.now c.requires c.loop-link.invariant
+    seek_falls g.K.Key.digest s.linked.rows.now s.linked.links.now s.linked.used c.loop-i.link c.in-Some.i c.in-Some.ensures c.args.key.now s.in_order c.loop-i.invariant
 
-pub loop-link-preserved : goal.loop-link-preserved
-loop-link-preserved g c =
+pub loop-i-preserved : goal.loop-i-preserved
+loop-i-preserved g c =
     let s = c.args.self.now in
-    let there = row_there g.K.Key.digest s.rows.now s.links.now s.used c.loop-link.link c.loop-link-test.true c.args.key.now c.requires c.loop-link.invariant in
-    seek_next g.K.Key.digest s.rows.now s.links.now s.used c.loop-link.link c.loop-link-test.true c.args.key.now c.requires c.loop-link.invariant
-    (λ d p. both_ways _ (sym c.if-is_like.ensures) ((g.K.Key.equal _ _).1 (ap (λ x. x.key) (get_or_default s.rows.now _ c.index-rows-i.result d there) ∙ p)))
+    let there = row_there g.K.Key.digest s.linked.rows.now s.linked.links.now s.linked.used c.loop-i.link c.in-Some.i c.in-Some.ensures c.args.key.now s.in_order c.loop-i.invariant in
+    seek_next g.K.Key.digest s.linked.rows.now s.linked.links.now s.linked.used c.loop-i.link c.in-Some.i c.in-Some.ensures c.args.key.now s.in_order c.loop-i.invariant
+    (λ d p. both_ways _ (sym c.if-is_like.ensures) ((g.K.Key.equal _ _).1 (ap (λ x. x.key) (get_or_default s.linked.rows.now _ c.index-rows-i.result d there) ∙ p)))

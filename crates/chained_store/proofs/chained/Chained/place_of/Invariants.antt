@@ -1,8 +1,8 @@
 use Rattle.chained_store.proofs.Following.{Seeking}
 use Rattle.chained_store.proofs.chained.Chained.place_of.Given as goal
 
-abbrev pub invariant-loop-link : goal.invariant-loop-link
-invariant-loop-link g l = Seeking g.K.Key.digest l.self.rows.now l.self.links.now l.self.used l.key l.link
+abbrev pub invariant-loop-i : goal.invariant-loop-i
+invariant-loop-i g l = Seeking g.K.Key.digest l.self.linked.rows.now l.self.linked.links.now l.self.linked.used l.key l.link
 
-abbrev pub decreases-loop-link : goal.decreases-loop-link
-decreases-loop-link g l = l.link
+abbrev pub decreases-loop-i : goal.decreases-loop-i
+decreases-loop-i g l = l.link

@@ -1,7 +1,7 @@
 use Rattle.std.proofs.Common.{◌≡◌, ◌-◌, ◌<◌, length, get_or, set, sym, refl, ap, ◌∙◌, arith}
 use Rattle.std.proofs.lemmas.List.{get_or_default, set-get_or}
 use Rattle.chained_store.proofs.Buckets.{chains_last}
-use Rattle.chained_store.proofs.chained.Chained.take_out.Goals as goal
+use Rattle.chained_store.proofs.links.Linked.take_out.Goals as goal
 
 pub replace-requires : goal.replace-requires
 replace-requires g c =

@@ -1,7 +1,7 @@
 use Rattle.std.proofs.Common.{◌<◌, length, set, ap, ◌∙◌, arith}
 use Rattle.std.proofs.lemmas.List.{length-set}
 use Rattle.chained_store.proofs.Buckets.{chains_set, chains_back}
-use Rattle.chained_store.proofs.chained.Chained.replace.Goals as goal
+use Rattle.chained_store.proofs.links.Linked.replace.Goals as goal
 
 pub write-requires : goal.write-requires
 write-requires g c = rw c.unlink.ensures.rows (c.requires.chains.low c.args.i c.requires.row)

@@ -1,5 +1,5 @@
 use Rattle.chained_store.proofs.Following.{near_first, near_next, near_falls}
-use Rattle.chained_store.proofs.chained.Chained.before.Goals as goal
+use Rattle.chained_store.proofs.links.Linked.before.Goals as goal
 
 pub loop-p-init : goal.loop-p-init
 loop-p-init g c =
