@@ -76,17 +76,18 @@ module _ {K R : Type 0} (digest : K → ℕ) (rows : List (Row K R)) (links : Li
           chain = chain_of_bucket digest rows (length links) p (omega arith) ∙ sym (chain_of_row digest rows (length links) x (get_or rows x d) a (get_or_default rows x d (get_or rows x d) a));
         }
 
-    module _ (p : ℕ) (leads : Leads digest rows links n x) (w : Nearing digest rows links n x p) (far : x + 1 < get_or links p 0) where
-      down : (get_or links p 0 - 1 < p) × (get_or links p 0 - 1 < n) × (chain_of (hashes digest rows) (length links) (get_or links p 0 - 1) ≡ chain_of (hashes digest rows) (length links) p)
-      down = leads p (get_or links p 0 - 1) (w.within, w.used, w.after, omega arith)
+    -- the row i that the link at the place is to
+    module _ (p i : ℕ) (leads : Leads digest rows links n x) (w : Nearing digest rows links n x p) (to : (1 ≤ get_or links p 0) × (i ≡ get_or links p 0 - 1)) (far : x < i) where
+      down : (i < p) × (i < n) × (chain_of (hashes digest rows) (length links) i ≡ chain_of (hashes digest rows) (length links) p)
+      down = leads p i (w.within, w.used, w.after, omega (arith, to.0, to.1))
 
-      pub near_falls : get_or links p 0 - 1 < p
+      pub near_falls : i < p
       near_falls = down.0
 
-      pub near_next : Nearing digest rows links n x (get_or links p 0 - 1)
+      pub near_next : Nearing digest rows links n x i
       near_next = record {
-        within = let a = down.0 in let b = w.within in omega arith;
+        within = omega (arith, down.0, w.within);
         used = λ _. down.1;
-        after = omega arith;
+        after = far;
         chain = down.2 ∙ w.chain;
       }

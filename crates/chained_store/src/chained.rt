@@ -37,14 +37,13 @@ impl<'a, K: Key + Copy, R: Copy> Chained<'a, K, R> {
     fn place_of(&self, key: &K) -> Option<usize>
         ensures { Place self.now.linked.rows.now self.now.linked.used key.now result }
     {
-        let rows: &[Row<K, R>] = self.linked.rows;
-        let links: &[usize] = self.linked.links;
-        let mut link = links[self.linked.bucket(key)];
+        let rows = &*self.linked.rows;
+        let mut link = self.linked.links[self.linked.bucket(key)];
         while let Some(i) = link.checked_sub(1) {
             if rows[i].key.is_like(key) {
                 return Some(i);
             }
-            link = links[i];
+            link = self.linked.links[i];
         }
         None
     }

@@ -34,11 +34,10 @@ impl<'a, K: Key + Copy, R: Copy> Linked<'a, K, R> {
         requires leads { Leads K.Key.digest self.now.rows.now self.now.links.now self.now.used x }
         ensures { Before K.Key.digest self.now.rows.now self.now.links.now self.now.used x result }
     {
-        let rows: &[Row<K, R>] = self.rows;
-        let links: &[usize] = self.links;
-        let mut p = self.bucket(&rows[x].key);
-        while links[p] > x + 1 {
-            p = links[p] - 1;
+        let key = self.rows[x].key;
+        let mut p = self.bucket(&key);
+        while let Some(i) = self.links[p].checked_sub(1) && i > x {
+            p = i;
         }
         p
     }
