@@ -5,12 +5,13 @@ use Rattle.std.proofs.lemmas.Bool.{cases_eq, cases_lt, cond-true, cond-false, lt
 use Rattle.stores.specs.declared.row.Row.{Row}
 use Rattle.stores.proofs.Numbered.{some_row}
 use Rattle.chained_store.specs.Buckets.{hashes, bucket_of, chain_of}
-use Rattle.chained_store.specs.Chains.{LinksLead, LinksPassNone, Chains, InOrder, Below}
+use Rattle.chained_store.specs.Chains.{LinksLead, LinksPassNone, Chains, Below}
 use Rattle.chained_store.specs.Entering.{Before, Leads, But, With}
 use Rattle.stores.specs.Functions.{Removed}
 use Rattle.stores.specs.Places.{Here}
 use Rattle.stores.specs.Rows.{Dense, held}
-use Rattle.stores.proofs.Changes.{over_dense, over_keys, less_dense, removed_one}
+use Rattle.stores.proofs.Changes.{less_dense, removed_one}
+use Rattle.stores.proofs.Lookups.{row_set}
 use Rattle.chained_store.proofs.Relinking.{unlinked_lead, unlinked_pass, linked_lead, linked_pass}
 
 pub bucket_in : (hash room w : ℕ) → room < w → bucket_of hash room w < w
@@ -137,31 +138,17 @@ module _ {K R : Type 0} (digest : K → ℕ) (rows : List (Row K R)) (links : Li
   chains_back n i b c = chains_like digest rows links (With n i) (Below n) (λ j a. ⊎_elim (λ (e : j ≡ i). omega arith) (λ f. a f) (cases_eq j i)) (λ j a f. a) c
 
   -- a key's row is written over
-  pub over_in_order : (e : K → K → Bool) (equal : (x y : K) → Decides (e x y) (x ≡ y)) (n i : ℕ) (x : Row K R) → Here rows n x.key i → InOrder digest rows links n → InOrder digest (set rows i x) links n
-  over_in_order e equal n i x p w = record {
-    dense = over_dense e equal rows n w.dense i x p;
-    chains = chains_rows digest rows links (set rows i x) (Below n) (length-set rows i x)
-        (λ q own. chain_kept digest rows (set rows i x) (length links) (length-set rows i x) q x (λ b. ap digest (over_keys e equal rows n w.dense i x p q x))) w.chains;
-  }
-
--- links that are all 0 are chains of no rows
-pub none_in_order : {K R : Type 0} (digest : K → ℕ) (rows : List (Row K R)) (w : ℕ) → length rows < w → InOrder digest rows (replicate w 0) 0
-none_in_order digest rows w a =
-    let len : length {A = ℕ} (replicate w 0) ≡ w = length-replicate w 0 in
-    record {
-      dense = record { fits = omega arith; apart = λ i j d b c p. omega arith };
-      chains = record {
-        wide = omega arith;
-        low = λ j b. omega arith;
-        lead = λ p j q. absurd (let b : ◌≡◌ {A = ℕ} (get_or (replicate w 0) p 0) 0 = get_or-replicate w p 0 0 (omega (arith, q.0)) in let c = q.2 in omega arith);
-        pass = λ p j q. absurd (let b = q.2 in omega arith);
-      };
-    }
+  pub chains_over : (n i : ℕ) (x : Row K R) → Here rows n x.key i → Chains digest rows links (Below n) → Chains digest (set rows i x) links (Below n)
+  chains_over n i x at c =
+      let a : i < length rows = c.low i at.within in
+      chains_rows digest rows links (set rows i x) (Below n) (length-set rows i x)
+      (λ q own. chain_kept digest rows (set rows i x) (length links) (length-set rows i x) q x
+      (λ b. ap digest (⊎_elim (λ r. ap (λ y. y.key) r.1 ∙ sym (at.key x) ∙ ap (λ m. (get_or rows m x).key) (sym r.0)) (λ r. ap (λ y. y.key) r.1) (row_set rows i q x x a)))) c
 
 -- the last row has taken the place of the one that goes; the rows and their number after it are given by what they equal
-module _ {K R : Type 0} (digest : K → ℕ) (e : K → K → Bool) (equal : (x y : K) → Decides (e x y) (x ≡ y)) (rows : List (Row K R)) (n : ℕ) (h : Dense rows n)
+module _ {K R : Type 0} (e : K → K → Bool) (equal : (x y : K) → Decides (e x y) (x ≡ y)) (rows : List (Row K R)) (n : ℕ) (h : Dense rows n)
     (i : ℕ) (k : K) (at : Here rows n k i)
-    (rows' : List (Row K R)) (links : List ℕ) (n' : ℕ) (same : (d : Row K R) → rows' ≡ set rows i (get_or rows (n - 1) d)) (less : n' ≡ n - 1) where
+    (rows' : List (Row K R)) (n' : ℕ) (same : (d : Row K R) → rows' ≡ set rows i (get_or rows (n - 1) d)) (less : n' ≡ n - 1) where
   row : Row K R
   row = some_row rows (let l = h.fits in let a = at.within in omega arith)
 
@@ -171,11 +158,8 @@ module _ {K R : Type 0} (digest : K → ℕ) (e : K → K → Bool) (equal : (x 
   abbrev rows_less : List (Row K R)
   rows_less = set rows i (get_or rows (n - 1) row)
 
-  pub less_in_order : Chains digest rows' links (Below (n - 1)) → InOrder digest rows' links n'
-  less_in_order c = record {
-    dense = subst (λ v. Dense v n') (sym (same row)) (subst (λ m. Dense rows_less m) (sym less) (less_dense e equal rows n h i k (get_or rows (n - 1) row) at last));
-    chains = rw less c;
-  }
+  pub less_rows : Dense rows' n'
+  less_rows = subst (λ v. Dense v n') (sym (same row)) (subst (λ m. Dense rows_less m) (sym less) (less_dense e equal rows n h i k (get_or rows (n - 1) row) at last))
 
   pub less_removed : Removed e (held e rows n) k true (held e rows' n')
   less_removed =

@@ -3,7 +3,7 @@ use Rattle.std.proofs.Common.{◌≡◌, ℕ, ◌+◌, ◌-◌, ◌<◌, ◌≤�
 use Rattle.std.proofs.lemmas.List.{get_or_default}
 use Rattle.stores.specs.declared.row.Row.{Row}
 use Rattle.chained_store.specs.Buckets.{chain_of, hashes, bucket_of}
-use Rattle.chained_store.specs.Chains.{InOrder}
+use Rattle.chained_store.specs.Chains.{Chains, Below}
 use Rattle.chained_store.specs.Entering.{Leads}
 use Rattle.chained_store.proofs.Buckets.{bucket_in, chain_of_bucket, chain_of_row, chain_of_key, link_falls}
 
@@ -21,29 +21,28 @@ pub record Nearing {K R : Type 0} (digest : K → ℕ) (rows : List (Row K R)) (
   pub chain : chain_of (hashes digest rows) (length links) p ≡ chain_of (hashes digest rows) (length links) x
 
 module _ {K R : Type 0} (digest : K → ℕ) (rows : List (Row K R)) (links : List ℕ) (n : ℕ) where
-  pub seek_first : (k : K) → InOrder digest rows links n → Seeking digest rows links n k (get_or links (bucket_of (digest k) (length rows) (length links)) 0)
+  pub seek_first : (k : K) → Chains digest rows links (Below n) → Seeking digest rows links n k (get_or links (bucket_of (digest k) (length rows) (length links)) 0)
   seek_first k s =
-      let ch = s.chains in
       let p = bucket_of (digest k) (length rows) (length links) in
-      let a : p < length links = bucket_in (digest k) (length rows) (length links) ch.wide in
+      let a : p < length links = bucket_in (digest k) (length rows) (length links) s.wide in
       let own : p < length rows → p < n = λ z. absurd (omega arith) in
       let t = chain_of_bucket digest rows (length links) p (omega arith) in
       record {
-        low = (link_falls digest rows links n p ch a own).0;
-        chain = λ i e. (ch.lead p i (a, own, e)).2 ∙ t;
-        ahead = λ j d z q. (let f : j < length rows = ch.low j z in ch.pass p j (a, own, z, omega arith, chain_of_key digest rows links j d k f q ∙ sym t));
+        low = (link_falls digest rows links n p s a own).0;
+        chain = λ i e. (s.lead p i (a, own, e)).2 ∙ t;
+        ahead = λ j d z q. (let f : j < length rows = s.low j z in s.pass p j (a, own, z, omega arith, chain_of_key digest rows links j d k f q ∙ sym t));
       }
 
   -- the row i that a link is to
-  module _ (link i : ℕ) (to : (1 ≤ link) × (i ≡ link - 1)) (k : K) (s : InOrder digest rows links n) (w : Seeking digest rows links n k link) where
+  module _ (link i : ℕ) (to : (1 ≤ link) × (i ≡ link - 1)) (k : K) (s : Chains digest rows links (Below n)) (w : Seeking digest rows links n k link) where
     in_use : i < n
     in_use = omega (arith, to.0, to.1, w.low)
 
     pub row_there : i < length rows
-    row_there = s.chains.low i in_use
+    row_there = s.low i in_use
 
     pub link_there : i < length links
-    link_there = omega (arith, row_there, s.chains.wide)
+    link_there = omega (arith, row_there, s.wide)
 
     own : i < length rows → i < n
     own _ = in_use
@@ -52,16 +51,16 @@ module _ {K R : Type 0} (digest : K → ℕ) (rows : List (Row K R)) (links : Li
     chain = w.chain i (omega (arith, to.0, to.1))
 
     pub seek_falls : get_or links i 0 < link
-    seek_falls = omega (arith, to.0, to.1, (link_falls digest rows links n i s.chains link_there own).1)
+    seek_falls = omega (arith, to.0, to.1, (link_falls digest rows links n i s link_there own).1)
 
     pub seek_next : ((d : Row K R) → (get_or rows i d).key ≢ k) → Seeking digest rows links n k (get_or links i 0)
     seek_next other = record {
-      low = (link_falls digest rows links n i s.chains link_there own).0;
-      chain = λ j e. (s.chains.lead i j (link_there, own, e)).2 ∙ chain;
+      low = (link_falls digest rows links n i s link_there own).0;
+      chain = λ j e. (s.lead i j (link_there, own, e)).2 ∙ chain;
       ahead = λ j d y q. (let m = w.ahead j d y q in
           let ne : j ≢ i = λ e. other d (ap (λ v. (get_or rows v d).key) (sym e) ∙ q) in
           let b : j < i = omega (arith, to.0, to.1) in
-          s.chains.pass i j (link_there, own, y, b, chain_of_key digest rows links j d k (s.chains.low j y) q ∙ sym chain));
+          s.pass i j (link_there, own, y, b, chain_of_key digest rows links j d k (s.low j y) q ∙ sym chain));
     }
 
   module _ (x : ℕ) where

@@ -1,5 +1,4 @@
-ghost use Rattle.std.specs.Prelude.{◌≡◌, ◌+◌, ◌-◌, ◌<◌, ◌≤◌, length, slice_index_or, slice_set};
-ghost use Rattle.stores.specs.declared.row.Row.{Row as Entry};
+ghost use Rattle.std.specs.Prelude.{◌≡◌, ◌<◌, length, slice_set};
 ghost use Rattle.chained_store.specs.Buckets.{bucket_of};
 ghost use Rattle.chained_store.specs.Chains.{Chains, Below};
 ghost use Rattle.chained_store.specs.Entering.{Before, Leads, But, With};
@@ -7,16 +6,15 @@ ghost use Rattle.chained_store.specs.Entering.{Before, Leads, But, With};
 use keys::Key;
 use stores::Row;
 
-// The rows and links that the caller lends, and how many rows are in use, from the first on. A row may be out of its chain
-// meanwhile.
+// The rows and links that the caller lends, and how many rows are in use, from the first on. A row of these may be in no chain.
 #[derive(Drop)]
-pub(crate) struct Linked<'a, K: Key + Copy, R: Copy> {
+pub(crate) struct Table<'a, K: Key + Copy, R: Copy> {
     pub(crate) rows: &'a mut [Row<K, R>],
     pub(crate) links: &'a mut [usize],
     pub(crate) used: usize,
 }
 
-impl<'a, K: Key + Copy, R: Copy> Linked<'a, K, R> {
+impl<'a, K: Key + Copy, R: Copy> Table<'a, K, R> {
     // The place of the bucket that a key belongs to.
     pub(crate) fn bucket(&self, key: &K) -> usize
         requires { length self.now.rows.now < length self.now.links.now }
@@ -43,7 +41,7 @@ impl<'a, K: Key + Copy, R: Copy> Linked<'a, K, R> {
     }
 
     // Takes the row out of its chain.
-    fn unlink(&mut self, x: usize)
+    pub(crate) fn unlink(&mut self, x: usize)
         requires row { x < self.old.used }
         requires chains { Chains K.Key.digest self.old.rows.now self.old.links.now (Below self.old.used) }
         ensures chains { Chains K.Key.digest self.new.rows.now self.new.links.now (But self.old.used x) }
@@ -56,7 +54,7 @@ impl<'a, K: Key + Copy, R: Copy> Linked<'a, K, R> {
     }
 
     // Puts the row into its chain, which it is not in.
-    fn link(&mut self, x: usize)
+    pub(crate) fn link(&mut self, x: usize)
         requires row { x < length self.old.rows.now }
         requires chains { Chains K.Key.digest self.old.rows.now self.old.links.now (But self.old.used x) }
         ensures chains { Chains K.Key.digest self.new.rows.now self.new.links.now (With self.old.used x) }
@@ -70,57 +68,12 @@ impl<'a, K: Key + Copy, R: Copy> Linked<'a, K, R> {
     }
 
     // Writes a row, and leaves the links.
-    fn write(&mut self, i: usize, row: Row<K, R>)
+    pub(crate) fn write(&mut self, i: usize, row: Row<K, R>)
         requires { i < length self.old.rows.now }
         ensures rows { self.new.rows.now ≡ slice_set self.old.rows.now i row }
         ensures links { self.new.links.now ≡ self.old.links.now }
         ensures used { self.new.used ≡ self.old.used }
     {
         self.rows[i] = row;
-    }
-
-    // Writes a row over another, and puts it into its own chain.
-    fn replace(&mut self, i: usize, row: Row<K, R>)
-        requires row { i < self.old.used }
-        requires chains { Chains K.Key.digest self.old.rows.now self.old.links.now (Below self.old.used) }
-        ensures chains { Chains K.Key.digest self.new.rows.now self.new.links.now (Below self.old.used) }
-        ensures rows { self.new.rows.now ≡ slice_set self.old.rows.now i row }
-        ensures used { self.new.used ≡ self.old.used }
-    {
-        self.unlink(i);
-        self.write(i, row);
-        self.link(i);
-    }
-
-    // Puts a row behind those in use, and into its chain.
-    pub(crate) fn add(&mut self, row: Row<K, R>)
-        requires row { self.old.used < length self.old.rows.now }
-        requires chains { Chains K.Key.digest self.old.rows.now self.old.links.now (Below self.old.used) }
-        ensures chains { Chains K.Key.digest self.new.rows.now self.new.links.now (Below (self.old.used + 1)) }
-        ensures rows { self.new.rows.now ≡ slice_set self.old.rows.now self.old.used row }
-        ensures used { self.new.used ≡ self.old.used + 1 }
-    {
-        let x = self.used;
-        self.rows[x] = row;
-        self.link(x);
-        self.used += 1;
-    }
-
-    // Takes a row out, and lets the last row have its place.
-    pub(crate) fn take_out(&mut self, i: usize)
-        requires row { i < self.old.used }
-        requires fits { self.old.used ≤ length self.old.rows.now }
-        requires chains { Chains K.Key.digest self.old.rows.now self.old.links.now (Below self.old.used) }
-        ensures chains { Chains K.Key.digest self.new.rows.now self.new.links.now (Below (self.old.used - 1)) }
-        ensures rows { (d : Entry K R) → self.new.rows.now ≡ slice_set self.old.rows.now i (slice_index_or self.old.rows.now (self.old.used - 1) d) }
-        ensures used { self.new.used ≡ self.old.used - 1 }
-    {
-        let last = self.used - 1;
-        let row = self.rows[last];
-        self.unlink(last);
-        self.used = last;
-        if i < last {
-            self.replace(i, row);
-        }
     }
 }

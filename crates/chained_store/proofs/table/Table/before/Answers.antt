@@ -1,5 +1,5 @@
 use Rattle.chained_store.proofs.Following.{near_first, near_next, near_falls}
-use Rattle.chained_store.proofs.links.Linked.before.Goals as goal
+use Rattle.chained_store.proofs.table.Table.before.Goals as goal
 
 pub loop-i-init : goal.loop-i-init
 loop-i-init g c =

@@ -1,6 +1,6 @@
 use Rattle.std.proofs.Common.{refl}
 use Rattle.chained_store.proofs.Buckets.{leads_out, linked}
-use Rattle.chained_store.proofs.links.Linked.link.Goals as goal
+use Rattle.chained_store.proofs.table.Table.link.Goals as goal
 
 pub before-p-requires : goal.before-p-requires
 before-p-requires g c =
