@@ -1,3 +1,4 @@
+use Rattle.std.proofs.Common.{rules}
 use Rattle.stores.proofs.Changes.{over_dense, put_over, put_new, put_full}
 use Rattle.chained_store.proofs.Buckets.{chains_over}
 use Rattle.chained_store.proofs.chained.ChainedStore.put.Goals as goal
@@ -20,10 +21,10 @@ returns-in-None-clause-put g c =
     let s = c.args.self.now in
     let t = s.linked.table in
     rw (c.add.ensures.rows, c.add.ensures.used)
-    (put_new g.K.Key.alike g.K.Key.equal t.rows.now t.used s.dense (record { key = c.args.key; value = c.args.value }) c.if-self.true c.in-None.ensures)
+    (put_new g.K.Key.alike g.K.Key.equal t.rows.now t.used s.dense (record { key = c.args.key; value = c.args.value }) (search rules) c.in-None.ensures)
 
 pub returns-in-None-2-clause-put : goal.returns-in-None-2-clause-put
 returns-in-None-2-clause-put g c =
     let s = c.args.self.now in
     let t = s.linked.table in
-    put_full g.K.Key.alike g.K.Key.equal t.rows.now t.used s.dense c.args.key c.args.value c.if-self.false c.in-None-2.ensures
+    put_full g.K.Key.alike g.K.Key.equal t.rows.now t.used s.dense c.args.key c.args.value (search rules) c.in-None-2.ensures

@@ -1,4 +1,4 @@
-use Rattle.std.proofs.Common.{sym, ap, ◌∙◌}
+use Rattle.std.proofs.Common.{sym, ap, ◌∙◌, arith}
 use Rattle.std.proofs.lemmas.List.{get_or_default}
 use Rattle.std.proofs.lemmas.Bool.{both_ways}
 use Rattle.chained_store.proofs.Following.{seek_first, seek_next, seek_falls, row_there}
@@ -12,7 +12,7 @@ loop-i-init g c =
 pub loop-i-smaller : goal.loop-i-smaller
 loop-i-smaller g c =
     let s = c.args.self.now in
-    seek_falls g.K.Key.digest s.table.rows.now s.table.links.now s.table.used c.loop-i.link c.in-Some.i c.in-Some.ensures c.args.key.now s.chains c.loop-i.invariant
+    omega (arith, seek_falls g.K.Key.digest s.table.rows.now s.table.links.now s.table.used c.loop-i.link c.in-Some.i c.in-Some.ensures c.args.key.now s.chains c.loop-i.invariant)
 
 pub loop-i-preserved : goal.loop-i-preserved
 loop-i-preserved g c =
