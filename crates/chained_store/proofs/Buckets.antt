@@ -10,8 +10,7 @@ use Rattle.chained_store.specs.Entering.{Before, Leads, But, With}
 use Rattle.stores.specs.Functions.{Removed}
 use Rattle.stores.specs.Places.{Here}
 use Rattle.stores.specs.Rows.{Dense, held}
-use Rattle.stores.proofs.Changes.{less_dense, removed_one}
-use Rattle.stores.proofs.Lookups.{row_set}
+use Rattle.stores.proofs.Changes.{over_keys, less_dense, removed_one}
 use Rattle.chained_store.proofs.Relinking.{unlinked_lead, unlinked_pass, linked_lead, linked_pass}
 
 pub bucket_in : (hash room w : ℕ) → room < w → bucket_of hash room w < w
@@ -138,33 +137,25 @@ module _ {K R : Type 0} (digest : K → ℕ) (rows : List (Row K R)) (links : Li
   chains_back n i b c = chains_like digest rows links (With n i) (Below n) (λ j a. ⊎_elim (λ (e : j ≡ i). omega arith) (λ f. a f) (cases_eq j i)) (λ j a f. a) c
 
   -- a key's row is written over
-  pub chains_over : (n i : ℕ) (x : Row K R) → Here rows n x.key i → Chains digest rows links (Below n) → Chains digest (set rows i x) links (Below n)
-  chains_over n i x at c =
-      let a : i < length rows = c.low i at.within in
+  pub chains_over : (e : K → K → Bool) (equal : (x y : K) → Decides (e x y) (x ≡ y)) (n i : ℕ) (x : Row K R) → Dense rows n → Here rows n x.key i → Chains digest rows links (Below n) → Chains digest (set rows i x) links (Below n)
+  chains_over e equal n i x h at c =
       chains_rows digest rows links (set rows i x) (Below n) (length-set rows i x)
-      (λ q own. chain_kept digest rows (set rows i x) (length links) (length-set rows i x) q x
-      (λ b. ap digest (⊎_elim (λ r. ap (λ y. y.key) r.1 ∙ sym (at.key x) ∙ ap (λ m. (get_or rows m x).key) (sym r.0)) (λ r. ap (λ y. y.key) r.1) (row_set rows i q x x a)))) c
+      (λ q own. chain_kept digest rows (set rows i x) (length links) (length-set rows i x) q x (λ b. ap digest (over_keys e equal rows n h i x at q x))) c
 
--- the last row has taken the place of the one that goes; the rows and their number after it are given by what they equal
+-- the last row has taken the place of the one that goes; the rows after it are given by what they equal
 module _ {K R : Type 0} (e : K → K → Bool) (equal : (x y : K) → Decides (e x y) (x ≡ y)) (rows : List (Row K R)) (n : ℕ) (h : Dense rows n)
-    (i : ℕ) (k : K) (at : Here rows n k i)
-    (rows' : List (Row K R)) (n' : ℕ) (same : (d : Row K R) → rows' ≡ set rows i (get_or rows (n - 1) d)) (less : n' ≡ n - 1) where
+    (i : ℕ) (k : K) (at : Here rows n k i) (rows' : List (Row K R)) (same : (d : Row K R) → rows' ≡ set rows i (get_or rows (n - 1) d)) where
   row : Row K R
-  row = some_row rows (let l = h.fits in let a = at.within in omega arith)
+  row = some_row rows (omega (arith, h.fits, at.within))
 
   last : (d : Row K R) → get_or rows (n - 1) row ≡ get_or rows (n - 1) d
-  last d = get_or_default rows (n - 1) row d (let l = h.fits in let a = at.within in omega arith)
+  last d = get_or_default rows (n - 1) row d (omega (arith, h.fits, at.within))
 
-  abbrev rows_less : List (Row K R)
-  rows_less = set rows i (get_or rows (n - 1) row)
+  pub less_rows : Dense rows' (n - 1)
+  less_rows = rw (same row) (less_dense e equal rows n h i k (get_or rows (n - 1) row) at last)
 
-  pub less_rows : Dense rows' n'
-  less_rows = subst (λ v. Dense v n') (sym (same row)) (subst (λ m. Dense rows_less m) (sym less) (less_dense e equal rows n h i k (get_or rows (n - 1) row) at last))
-
-  pub less_removed : Removed e (held e rows n) k true (held e rows' n')
-  less_removed =
-      subst (λ v. Removed e (held e rows n) k true (held e v n')) (sym (same row))
-      (subst (λ m. Removed e (held e rows n) k true (held e rows_less m)) (sym less) (removed_one e equal rows n h i k (get_or rows (n - 1) row) at last))
+  pub less_removed : Removed e (held e rows n) k true (held e rows' (n - 1))
+  less_removed = rw (same row) (removed_one e equal rows n h i k (get_or rows (n - 1) row) at last)
 
   pub less_room : length rows' ≡ length rows
   less_room = ap length (same row) ∙ length-set rows i (get_or rows (n - 1) row)

@@ -70,7 +70,7 @@ impl<'a, K: Key + Copy, R: Copy> Store for Chained<'a, K, R> {
         match self.linked.place_of(&key) {
             Some(i) => self.linked.table.rows[i] = Row { key, value },
             None if self.linked.table.used < self.linked.table.rows.len() => {
-                self.linked.add(Row { key, value });
+                self.linked.push(Row { key, value });
             }
             None => return Err(StoreFull),
         }
@@ -81,7 +81,7 @@ impl<'a, K: Key + Copy, R: Copy> Store for Chained<'a, K, R> {
         let Some(i) = self.linked.place_of(key) else {
             return false;
         };
-        self.linked.take_out(i);
+        self.linked.swap_remove(i);
         true
     }
 

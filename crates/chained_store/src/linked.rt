@@ -31,7 +31,7 @@ impl<'a, K: Key + Copy, R: Copy> Linked<'a, K, R> {
     }
 
     // Puts a row behind those in use.
-    pub(crate) fn add(&mut self, row: Row<K, R>)
+    pub(crate) fn push(&mut self, row: Row<K, R>)
         requires { self.old.table.used < length self.old.table.rows.now }
         ensures rows { self.new.table.rows.now ≡ slice_set self.old.table.rows.now self.old.table.used row }
         ensures used { self.new.table.used ≡ self.old.table.used + 1 }
@@ -54,7 +54,7 @@ impl<'a, K: Key + Copy, R: Copy> Linked<'a, K, R> {
     }
 
     // Takes a row out, and lets the last row have its place.
-    pub(crate) fn take_out(&mut self, i: usize)
+    pub(crate) fn swap_remove(&mut self, i: usize)
         requires row { i < self.old.table.used }
         requires fits { self.old.table.used ≤ length self.old.table.rows.now }
         ensures rows { (d : Entry K R) → self.new.table.rows.now ≡ slice_set self.old.table.rows.now i (slice_index_or self.old.table.rows.now (self.old.table.used - 1) d) }

@@ -49,8 +49,7 @@ impl<'a, K: Key + Copy, R: Copy> Table<'a, K, R> {
         ensures used { self.new.used ≡ self.old.used }
     {
         let p = self.before(x);
-        let after = self.links[x];
-        self.links[p] = after;
+        self.links[p] = self.links[x];
     }
 
     // Puts the row into its chain, which it is not in.
@@ -62,8 +61,7 @@ impl<'a, K: Key + Copy, R: Copy> Table<'a, K, R> {
         ensures used { self.new.used ≡ self.old.used }
     {
         let p = self.before(x);
-        let after = self.links[p];
-        self.links[x] = after;
+        self.links[x] = self.links[p];
         self.links[p] = x + 1;
     }
 

@@ -7,7 +7,7 @@ pub invariant_of-self : goal.invariant_of-self
 invariant_of-self g c =
     let s = c.args.self.now in
     let t = s.linked.table in
-    ((chains_over g.K.Key.digest t.rows.now t.links.now t.used c.in-Some.i (record { key = c.args.key; value = c.args.value }) c.in-Some.ensures s.linked.chains, _),
+    ((chains_over g.K.Key.digest t.rows.now t.links.now g.K.Key.alike g.K.Key.equal t.used c.in-Some.i (record { key = c.args.key; value = c.args.value }) s.dense c.in-Some.ensures s.linked.chains, _),
     (over_dense g.K.Key.alike g.K.Key.equal t.rows.now t.used s.dense c.in-Some.i (record { key = c.args.key; value = c.args.value }) c.in-Some.ensures, _))
 
 pub returns-in-Some-clause-put : goal.returns-in-Some-clause-put
@@ -20,7 +20,7 @@ pub returns-in-None-clause-put : goal.returns-in-None-clause-put
 returns-in-None-clause-put g c =
     let s = c.args.self.now in
     let t = s.linked.table in
-    rw (c.add.ensures.rows, c.add.ensures.used)
+    rw (c.push.ensures.rows, c.push.ensures.used)
     (put_new g.K.Key.alike g.K.Key.equal t.rows.now t.used s.dense (record { key = c.args.key; value = c.args.value }) (search rules) c.in-None.ensures)
 
 pub returns-in-None-2-clause-put : goal.returns-in-None-2-clause-put

@@ -1,5 +1,5 @@
 use Rattle.chained_store.proofs.Buckets.{chains_skip, chains_set, chains_more}
-use Rattle.chained_store.proofs.linked.Linked.add.Goals as goal
+use Rattle.chained_store.proofs.linked.Linked.push.Goals as goal
 
 pub link-requires-clause-chains : goal.link-requires-clause-chains
 link-requires-clause-chains g c =

@@ -1,7 +1,7 @@
 use Rattle.std.proofs.Common.{◌≡◌, ◌-◌, ◌<◌, length, get_or, set, sym, ap, ◌∙◌, arith}
 use Rattle.std.proofs.lemmas.List.{get_or_default, set-get_or}
 use Rattle.chained_store.proofs.Buckets.{chains_last}
-use Rattle.chained_store.proofs.linked.Linked.take_out.Goals as goal
+use Rattle.chained_store.proofs.linked.Linked.swap_remove.Goals as goal
 
 pub invariant_of-self : goal.invariant_of-self
 invariant_of-self g c =
