@@ -1,6 +1,7 @@
 -- The chain that a place is on, and chains when rows enter them, leave them and are written.
-use Rattle.std.proofs.Common.{◌≡◌, ℕ, ◌+◌, ◌-◌, ◌<◌, ◌≤◌, Bool, true, ltb, ◌≢◌, List, length, get_or, set, replicate, Decides, sym, refl, ap, ◌∙◌, subst, ⊎_elim, mod-lt, arith}
-use Rattle.std.proofs.lemmas.List.{length-replicate, get_or-replicate, length-map, get_or-map, get_or-set_other, get_or_default, length-set}
+use Rattle.std.proofs.Common.{◌≡◌, ℕ, ◌+◌, ◌-◌, ◌<◌, ◌≤◌, Bool, true, ltb, ◌≢◌, List, length, get_or, set, Decides, sym, refl, ap, ◌∙◌, subst, ⊎_elim, mod-lt, arith}
+use Rattle.std.proofs.lemmas.List.{length-map, get_or-map, get_or-set_other, get_or_default, length-set, map-set}
+use Rattle.std.proofs.Math.Seq.{map-set_same}
 use Rattle.std.proofs.lemmas.Bool.{cases_eq, cases_lt, cond-true, cond-false, lt-ltb, le-ltb}
 use Rattle.stores.specs.declared.row.Row.{Row}
 use Rattle.stores.proofs.Numbered.{some_row}
@@ -10,7 +11,7 @@ use Rattle.chained_store.specs.Entering.{Before, Leads, But, With}
 use Rattle.stores.specs.Functions.{Removed}
 use Rattle.stores.specs.Places.{Here}
 use Rattle.stores.specs.Rows.{Dense, held}
-use Rattle.stores.proofs.Changes.{over_keys, less_dense, removed_one}
+use Rattle.stores.proofs.Changes.{less_dense, removed_one}
 use Rattle.chained_store.proofs.Relinking.{unlinked_lead, unlinked_pass, linked_lead, linked_pass}
 
 pub bucket_in : (hash room w : ℕ) → room < w → bucket_of hash room w < w
@@ -104,25 +105,16 @@ module _ {K R : Type 0} (digest : K → ℕ) (rows : List (Row K R)) (links : Li
       chain_of_row digest rows (length links) j (get_or rows j d) a (get_or_default rows j d (get_or rows j d) a)
       ∙ ap (λ y. bucket_of (digest y) (length rows) (length links)) e
 
-module _ {K R : Type 0} (digest : K → ℕ) (rows rows' : List (Row K R)) (w : ℕ) (same : length rows' ≡ length rows) where
-  pub chain_kept : (p : ℕ) (d : Row K R) → (p < length rows → digest (get_or rows' p d).key ≡ digest (get_or rows p d).key) → chain_of (hashes digest rows') w p ≡ chain_of (hashes digest rows) w p
-  chain_kept p d e =
-      ⊎_elim
-      (λ a. (let a' : p < length rows' = omega arith in
-      chain_of_row digest rows' w p (get_or rows' p d) a' (get_or_default rows' p d (get_or rows' p d) a')
-      ∙ ap (λ n. bucket_of (digest (get_or rows' p d).key) n w) same
-      ∙ ap (λ g. bucket_of g (length rows) w) (e a)
-      ∙ sym (chain_of_row digest rows w p (get_or rows p d) a (get_or_default rows p d (get_or rows p d) a))))
-      (λ a. chain_of_bucket digest rows' w p (omega arith) ∙ sym (chain_of_bucket digest rows w p a))
-      (cases_lt p (length rows))
-
 -- what a store keeps
 module _ {K R : Type 0} (digest : K → ℕ) (rows : List (Row K R)) (links : List ℕ) where
   -- a row that is in no chain is written
   pub chains_set : (n i : ℕ) (x : Row K R) → i < length rows → Chains digest rows links (But n i) → Chains digest (set rows i x) links (But n i)
   chains_set n i x a c =
+      let hs = hashes digest rows in
+      let v = digest x.key in
       chains_rows digest rows links (set rows i x) (But n i) (length-set rows i x)
-      (λ p own. chain_kept digest rows (set rows i x) (length links) (length-set rows i x) p x (λ b. ap (λ y. digest y.key) (get_or-set_other rows i p x x (own b).1))) c
+      (λ p own. let ne : p ≢ i = ⊎_elim (λ b. (own b).1) (λ b. omega arith) (cases_lt p (length rows)) in
+      rw (map-set (λ y. digest y.key) rows i x, length-set hs i v, get_or-set_other hs i p v 0 ne) refl) c
 
   pub chains_skip : (n : ℕ) → Chains digest rows links (Below n) → Chains digest rows links (But n n)
   chains_skip n c = chains_like digest rows links (Below n) (But n n) (λ j a. (a, omega arith)) (λ j a. a.0) c
@@ -137,10 +129,10 @@ module _ {K R : Type 0} (digest : K → ℕ) (rows : List (Row K R)) (links : Li
   chains_back n i b c = chains_like digest rows links (With n i) (Below n) (λ j a. ⊎_elim (λ (e : j ≡ i). omega arith) (λ f. a f) (cases_eq j i)) (λ j a f. a) c
 
   -- a key's row is written over
-  pub chains_over : (e : K → K → Bool) (equal : (x y : K) → Decides (e x y) (x ≡ y)) (n i : ℕ) (x : Row K R) → Dense rows n → Here rows n x.key i → Chains digest rows links (Below n) → Chains digest (set rows i x) links (Below n)
-  chains_over e equal n i x h at c =
+  pub chains_over : (n i : ℕ) (x : Row K R) → Here rows n x.key i → Chains digest rows links (Below n) → Chains digest (set rows i x) links (Below n)
+  chains_over n i x at c =
       chains_rows digest rows links (set rows i x) (Below n) (length-set rows i x)
-      (λ q own. chain_kept digest rows (set rows i x) (length links) (length-set rows i x) q x (λ b. ap digest (over_keys e equal rows n h i x at q x))) c
+      (λ p own. ap (λ hs. chain_of hs (length links) p) (map-set_same (λ y. digest y.key) rows i x x (ap digest (sym (at.key x))))) c
 
 -- the last row has taken the place of the one that goes; the rows after it are given by what they equal
 module _ {K R : Type 0} (e : K → K → Bool) (equal : (x y : K) → Decides (e x y) (x ≡ y)) (rows : List (Row K R)) (n : ℕ) (h : Dense rows n)

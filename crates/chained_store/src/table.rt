@@ -34,7 +34,9 @@ impl<'a, K: Key + Copy, R: Copy> Table<'a, K, R> {
     {
         let key = self.rows[x].key;
         let mut p = self.bucket(&key);
-        while let Some(i) = self.links[p].checked_sub(1) && i > x {
+        while let Some(i) = self.links[p].checked_sub(1)
+            && i > x
+        {
             p = i;
         }
         p

@@ -6,9 +6,10 @@ use Rattle.chained_store.proofs.chained.ChainedStore.put.Goals as goal
 pub invariant_of-self : goal.invariant_of-self
 invariant_of-self g c =
     let s = c.args.self.now in
-    let t = s.linked.table in
-    ((chains_over g.K.Key.digest t.rows.now t.links.now g.K.Key.alike g.K.Key.equal t.used c.in-Some.i (record { key = c.args.key; value = c.args.value }) s.dense c.in-Some.ensures s.linked.chains, _),
-    (over_dense g.K.Key.alike g.K.Key.equal t.rows.now t.used s.dense c.in-Some.i (record { key = c.args.key; value = c.args.value }) c.in-Some.ensures, _))
+    let t = s.linked.table in (
+      (chains_over g.K.Key.digest t.rows.now t.links.now t.used c.in-Some.i (record { key = c.args.key; value = c.args.value }) c.in-Some.ensures s.linked.chains, _),
+      (over_dense g.K.Key.alike g.K.Key.equal t.rows.now t.used s.dense c.in-Some.i (record { key = c.args.key; value = c.args.value }) c.in-Some.ensures, _),
+    )
 
 pub returns-in-Some-clause-put : goal.returns-in-Some-clause-put
 returns-in-Some-clause-put g c =
