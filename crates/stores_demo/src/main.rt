@@ -38,8 +38,7 @@ fn run<
     K: Key + Copy,
     A: Store<Key = K, Record = u32> + Drop,
     B: Store<Key = K, Record = u32> + Drop,
->(rt: &HostRuntime, pair: &mut Pair<K, A, B>, keys: &[K], scratch: K) -> io::Result<()>
-{
+>(rt: &HostRuntime, pair: &mut Pair<K, A, B>, keys: &[K], scratch: K) -> io::Result<()> {
     report(rt, "put 12 keys: taken", put_all(pair, keys, 7))?;
     report(rt, "find 12 keys: found", find_all(pair, keys))?;
     report(
@@ -64,11 +63,12 @@ fn run<
 // Makes both stores for a kind of key, and runs them.
 fn run_kind<K: Key + Copy>(rt: &HostRuntime, what: &str, keys: &[K; KEYS]) -> anyhow::Result<()> {
     let scratch = keys[0];
-    let mut flat_rows = [Row {
+    let row = Row {
         key: scratch,
         value: 0,
-    }; ROOM];
-    let mut chained_rows = flat_rows;
+    };
+    let mut flat_rows = vec![in rt.alloc(); row; ROOM]?;
+    let mut chained_rows = vec![in rt.alloc(); row; ROOM]?;
     let mut links = [0; LINKS];
     let Some(chained) = Chained::over(&mut chained_rows, &mut links) else {
         return Err(anyhow!("there is no link for a bucket"));
