@@ -1,4 +1,4 @@
-ghost use Rattle.std.specs.Prelude.{◌≡◌, ◌+◌, ◌-◌, ◌<◌, ◌≤◌, length, slice_index_or, slice_set};
+ghost use Rattle.std.specs.Prelude.{◌≡◌, ◌+◌, ◌-◌, ◌<◌, length, slice_index_or, slice_set};
 ghost use Rattle.stores.specs.Places.{Place};
 ghost use Rattle.stores.specs.declared.row.Row.{Row as Entry};
 ghost use Rattle.chained_store.specs.Chains.{Chains, Below};
@@ -55,8 +55,7 @@ impl<'a, K: Key + Copy, R: Copy> Linked<'a, K, R> {
 
     // Takes a row out, and lets the last row have its place.
     pub(crate) fn swap_remove(&mut self, i: usize)
-        requires row { i < self.old.table.used }
-        requires fits { self.old.table.used ≤ length self.old.table.rows.now }
+        requires { i < self.old.table.used }
         ensures rows { (d : Entry K R) → self.new.table.rows.now ≡ slice_set self.old.table.rows.now i (slice_index_or self.old.table.rows.now (self.old.table.used - 1) d) }
         ensures used { self.new.table.used ≡ self.old.table.used - 1 }
     {

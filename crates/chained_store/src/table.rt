@@ -67,7 +67,7 @@ impl<'a, K: Key + Copy, R: Copy> Table<'a, K, R> {
         self.links[p] = x + 1;
     }
 
-    // Writes a row, and leaves the links.
+    // Writes a row, and leaves the links. A write from `Linked` would owe there that the row is in its chain.
     pub(crate) fn write(&mut self, i: usize, row: Row<K, R>)
         requires { i < length self.old.rows.now }
         ensures rows { self.new.rows.now ≡ slice_set self.old.rows.now i row }
