@@ -19,4 +19,4 @@ loop-i-preserved g c =
     let s = c.args.self.now in
     let there = row_there g.K.Key.digest s.table.rows.now s.table.links.now s.table.used c.loop-i.link c.in-Some.i c.in-Some.ensures c.args.key.now s.chains c.loop-i.invariant in
     seek_next g.K.Key.digest s.table.rows.now s.table.links.now s.table.used c.loop-i.link c.in-Some.i c.in-Some.ensures c.args.key.now s.chains c.loop-i.invariant
-    (λ d p. both_ways _ (sym c.if-is_like.ensures) ((g.K.Key.equal _ _).1 (ap (λ x. x.key) (get_or_default s.table.rows.now c.in-Some.i c.index-rows-i.result d there) ∙ p)))
+    (λ d p. both_ways _ (sym c.if-is_like.ensures) ((g.met.K.Key.equal _ _).1 (ap (λ x. x.key) (get_or_default s.table.rows.now c.in-Some.i c.index-rows-i.result d there) ∙ p)))

@@ -6,14 +6,14 @@ use Rattle.flat_store.proofs.flat.FlatStore.remove.Goals as goal
 pub invariant_of-self : goal.invariant_of-self
 invariant_of-self g c =
     let s = c.args.self.now in
-    record { dense = less_dense g.K.Key.alike g.K.Key.equal s.rows.now s.used s.dense c.in-Some.i c.args.key.now _ c.in-Some.ensures (λ d. get_or_default s.rows.now (s.used - 1) c.index-self-last.result d (let l = s.dense.fits in let a = c.in-Some.ensures.within in omega arith)) }
+    record { dense = less_dense g.K.Key.alike g.met.K.Key.equal s.rows.now s.used s.dense c.in-Some.i c.args.key.now _ c.in-Some.ensures (λ d. get_or_default s.rows.now (s.used - 1) c.index-self-last.result d (let l = s.dense.fits in let a = c.in-Some.ensures.within in omega arith)) }
 
 pub returns-clause-removed : goal.returns-clause-removed
 returns-clause-removed g c =
     let s = c.args.self.now in
-    removed_one g.K.Key.alike g.K.Key.equal s.rows.now s.used s.dense c.in-Some.i c.args.key.now _ c.in-Some.ensures (λ d. get_or_default s.rows.now (s.used - 1) c.index-self-last.result d (let l = s.dense.fits in let a = c.in-Some.ensures.within in omega arith))
+    removed_one g.K.Key.alike g.met.K.Key.equal s.rows.now s.used s.dense c.in-Some.i c.args.key.now _ c.in-Some.ensures (λ d. get_or_default s.rows.now (s.used - 1) c.index-self-last.result d (let l = s.dense.fits in let a = c.in-Some.ensures.within in omega arith))
 
 pub returns-in_default-clause-removed : goal.returns-in_default-clause-removed
 returns-in_default-clause-removed g c =
     let s = c.args.self.now in
-    removed_none g.K.Key.alike g.K.Key.equal s.rows.now s.used s.dense c.args.key.now c.in_default.ensures
+    removed_none g.K.Key.alike g.met.K.Key.equal s.rows.now s.used s.dense c.args.key.now c.in_default.ensures
