@@ -1,16 +1,17 @@
 -- The chain that a place is on, and chains when rows enter them, leave them and are written.
-use Rattle.std.proofs.Common.{◌≡◌, ℕ, ◌+◌, ◌-◌, ◌<◌, ◌≤◌, Bool, true, ltb, ◌≢◌, List, length, get_or, set, replicate, Decides, sym, refl, ap, ◌∙◌, subst, ⊎_elim, mod-lt, arith}
-use Rattle.std.proofs.lemmas.List.{length-replicate, get_or-replicate, length-map, get_or-map, get_or-set_other, get_or_default, length-set}
+use Rattle.std.proofs.Common.{◌≡◌, ℕ, ◌+◌, ◌-◌, ◌<◌, ◌≤◌, Bool, true, ltb, ◌≢◌, List, length, get_or, set, Decides, sym, refl, ap, ◌∙◌, subst, ⊎_elim, mod-lt, arith}
+use Rattle.std.proofs.lemmas.List.{length-map, get_or-map, get_or-set_other, get_or_default, length-set, map-set}
+use Rattle.std.proofs.Math.Seq.{map-set_same}
 use Rattle.std.proofs.lemmas.Bool.{cases_eq, cases_lt, cond-true, cond-false, lt-ltb, le-ltb}
 use Rattle.stores.specs.declared.row.Row.{Row}
 use Rattle.stores.proofs.Numbered.{some_row}
 use Rattle.chained_store.specs.Buckets.{hashes, bucket_of, chain_of}
-use Rattle.chained_store.specs.Chains.{LinksLead, LinksPassNone, Chains, InOrder, Below}
+use Rattle.chained_store.specs.Chains.{LinksLead, LinksPassNone, Chains, Below}
 use Rattle.chained_store.specs.Entering.{Before, Leads, But, With}
 use Rattle.stores.specs.Functions.{Removed}
-use Rattle.stores.specs.Places.{Place}
+use Rattle.stores.specs.Places.{Here}
 use Rattle.stores.specs.Rows.{Dense, held}
-use Rattle.stores.proofs.Changes.{over_dense, over_keys, less_dense, removed_one}
+use Rattle.stores.proofs.Changes.{less_dense, removed_one}
 use Rattle.chained_store.proofs.Relinking.{unlinked_lead, unlinked_pass, linked_lead, linked_pass}
 
 pub bucket_in : (hash room w : ℕ) → room < w → bucket_of hash room w < w
@@ -91,13 +92,12 @@ module _ {K R : Type 0} (digest : K → ℕ) (rows : List (Row K R)) (links : Li
       }
 
   -- one step along a chain
-  pub link_next : (n p : ℕ) → Chains digest rows links (Below n) → p < length links → (p < length rows → p < n)
-      → (get_or links p 0 ≤ n) × (get_or links p 0 ≤ p) × (0 < get_or links p 0 → chain_of (hashes digest rows) (length links) (get_or links p 0 - 1) ≡ chain_of (hashes digest rows) (length links) p)
-  link_next n p c a own =
+  pub link_falls : (n p : ℕ) → Chains digest rows links (Below n) → p < length links → (p < length rows → p < n) → (get_or links p 0 ≤ n) × (get_or links p 0 ≤ p)
+  link_falls n p c a own =
       ⊎_elim
       (λ (z : 0 < get_or links p 0). (let e : get_or links p 0 ≡ (get_or links p 0 - 1) + 1 = omega arith in
-      let s = c.lead p (get_or links p 0 - 1) (a, own, e) in (omega (arith, s.1), omega (arith, s.0), λ _. s.2)))
-      (λ z. (omega arith, omega arith, λ y. absurd (omega arith)))
+      let s = c.lead p (get_or links p 0 - 1) (a, own, e) in (omega (arith, s.1), omega (arith, s.0))))
+      (λ z. (omega arith, omega arith))
       (cases_lt 0 (get_or links p 0))
 
   pub chain_of_key : (j : ℕ) (d : Row K R) (k : K) → j < length rows → (get_or rows j d).key ≡ k → chain_of (hashes digest rows) (length links) j ≡ bucket_of (digest k) (length rows) (length links)
@@ -105,25 +105,16 @@ module _ {K R : Type 0} (digest : K → ℕ) (rows : List (Row K R)) (links : Li
       chain_of_row digest rows (length links) j (get_or rows j d) a (get_or_default rows j d (get_or rows j d) a)
       ∙ ap (λ y. bucket_of (digest y) (length rows) (length links)) e
 
-module _ {K R : Type 0} (digest : K → ℕ) (rows rows' : List (Row K R)) (w : ℕ) (same : length rows' ≡ length rows) where
-  pub chain_kept : (p : ℕ) (d : Row K R) → (p < length rows → digest (get_or rows' p d).key ≡ digest (get_or rows p d).key) → chain_of (hashes digest rows') w p ≡ chain_of (hashes digest rows) w p
-  chain_kept p d e =
-      ⊎_elim
-      (λ a. (let a' : p < length rows' = omega arith in
-      chain_of_row digest rows' w p (get_or rows' p d) a' (get_or_default rows' p d (get_or rows' p d) a')
-      ∙ ap (λ n. bucket_of (digest (get_or rows' p d).key) n w) same
-      ∙ ap (λ g. bucket_of g (length rows) w) (e a)
-      ∙ sym (chain_of_row digest rows w p (get_or rows p d) a (get_or_default rows p d (get_or rows p d) a))))
-      (λ a. chain_of_bucket digest rows' w p (omega arith) ∙ sym (chain_of_bucket digest rows w p a))
-      (cases_lt p (length rows))
-
 -- what a store keeps
 module _ {K R : Type 0} (digest : K → ℕ) (rows : List (Row K R)) (links : List ℕ) where
   -- a row that is in no chain is written
   pub chains_set : (n i : ℕ) (x : Row K R) → i < length rows → Chains digest rows links (But n i) → Chains digest (set rows i x) links (But n i)
   chains_set n i x a c =
+      let hs = hashes digest rows in
+      let v = digest x.key in
       chains_rows digest rows links (set rows i x) (But n i) (length-set rows i x)
-      (λ p own. chain_kept digest rows (set rows i x) (length links) (length-set rows i x) p x (λ b. ap (λ y. digest y.key) (get_or-set_other rows i p x x (own b).1))) c
+      (λ p own. let ne : p ≢ i = ⊎_elim (λ b. (own b).1) (λ b. omega arith) (cases_lt p (length rows)) in
+      rw (map-set (λ y. digest y.key) rows i x, length-set hs i v, get_or-set_other hs i p v 0 ne) refl) c
 
   pub chains_skip : (n : ℕ) → Chains digest rows links (Below n) → Chains digest rows links (But n n)
   chains_skip n c = chains_like digest rows links (Below n) (But n n) (λ j a. (a, omega arith)) (λ j a. a.0) c
@@ -138,50 +129,25 @@ module _ {K R : Type 0} (digest : K → ℕ) (rows : List (Row K R)) (links : Li
   chains_back n i b c = chains_like digest rows links (With n i) (Below n) (λ j a. ⊎_elim (λ (e : j ≡ i). omega arith) (λ f. a f) (cases_eq j i)) (λ j a f. a) c
 
   -- a key's row is written over
-  pub over_in_order : (e : K → K → Bool) (equal : (x y : K) → Decides (e x y) (x ≡ y)) (n i : ℕ) (x : Row K R) → i < n → Place rows n x.key i → InOrder digest rows links n → InOrder digest (set rows i x) links n
-  over_in_order e equal n i x a p w = record {
-    dense = over_dense e equal rows n w.dense i x a p;
-    chains = chains_rows digest rows links (set rows i x) (Below n) (length-set rows i x)
-        (λ q own. chain_kept digest rows (set rows i x) (length links) (length-set rows i x) q x (λ b. ap digest (over_keys e equal rows n w.dense i x a p q x))) w.chains;
-  }
+  pub chains_over : (n i : ℕ) (x : Row K R) → Here rows n x.key i → Chains digest rows links (Below n) → Chains digest (set rows i x) links (Below n)
+  chains_over n i x at c =
+      chains_rows digest rows links (set rows i x) (Below n) (length-set rows i x)
+      (λ p own. ap (λ hs. chain_of hs (length links) p) (map-set_same (λ y. digest y.key) rows i x x (ap digest (sym (at.key x))))) c
 
--- links that are all 0 are chains of no rows
-pub none_in_order : {K R : Type 0} (digest : K → ℕ) (rows : List (Row K R)) (w : ℕ) → length rows < w → InOrder digest rows (replicate w 0) 0
-none_in_order digest rows w a =
-    let len : length {A = ℕ} (replicate w 0) ≡ w = length-replicate w 0 in
-    record {
-      dense = record { fits = omega arith; apart = λ i j d b c p. omega arith };
-      chains = record {
-        wide = omega arith;
-        low = λ j b. omega arith;
-        lead = λ p j q. absurd (let b : ◌≡◌ {A = ℕ} (get_or (replicate w 0) p 0) 0 = get_or-replicate w p 0 0 (omega (arith, q.0)) in let c = q.2 in omega arith);
-        pass = λ p j q. absurd (let b = q.2 in omega arith);
-      };
-    }
-
--- the last row has taken the place of the one that goes; the rows and their number after it are given by what they equal
-module _ {K R : Type 0} (digest : K → ℕ) (e : K → K → Bool) (equal : (x y : K) → Decides (e x y) (x ≡ y)) (rows : List (Row K R)) (n : ℕ) (h : Dense rows n)
-    (i : ℕ) (k : K) (a : i < n) (at : Place rows n k i)
-    (rows' : List (Row K R)) (links : List ℕ) (n' : ℕ) (same : (d : Row K R) → rows' ≡ set rows i (get_or rows (n - 1) d)) (less : n' ≡ n - 1) where
+-- the last row has taken the place of the one that goes; the rows after it are given by what they equal
+module _ {K R : Type 0} (e : K → K → Bool) (equal : (x y : K) → Decides (e x y) (x ≡ y)) (rows : List (Row K R)) (n : ℕ) (h : Dense rows n)
+    (i : ℕ) (k : K) (at : Here rows n k i) (rows' : List (Row K R)) (same : (d : Row K R) → rows' ≡ set rows i (get_or rows (n - 1) d)) where
   row : Row K R
-  row = some_row rows (let l = h.fits in omega arith)
+  row = some_row rows (omega (arith, h.fits, at.within))
 
   last : (d : Row K R) → get_or rows (n - 1) row ≡ get_or rows (n - 1) d
-  last d = get_or_default rows (n - 1) row d (let l = h.fits in omega arith)
+  last d = get_or_default rows (n - 1) row d (omega (arith, h.fits, at.within))
 
-  abbrev rows_less : List (Row K R)
-  rows_less = set rows i (get_or rows (n - 1) row)
+  pub less_rows : Dense rows' (n - 1)
+  less_rows = rw (same row) (less_dense e equal rows n h i k (get_or rows (n - 1) row) at last)
 
-  pub less_in_order : Chains digest rows' links (Below (n - 1)) → InOrder digest rows' links n'
-  less_in_order c = record {
-    dense = subst (λ v. Dense v n') (sym (same row)) (subst (λ m. Dense rows_less m) (sym less) (less_dense e equal rows n h i k (get_or rows (n - 1) row) a at last));
-    chains = rw less c;
-  }
-
-  pub less_removed : Removed e (held e rows n) k true (held e rows' n')
-  less_removed =
-      subst (λ v. Removed e (held e rows n) k true (held e v n')) (sym (same row))
-      (subst (λ m. Removed e (held e rows n) k true (held e rows_less m)) (sym less) (removed_one e equal rows n h i k (get_or rows (n - 1) row) a at last))
+  pub less_removed : Removed e (held e rows n) k true (held e rows' (n - 1))
+  less_removed = rw (same row) (removed_one e equal rows n h i k (get_or rows (n - 1) row) at last)
 
   pub less_room : length rows' ≡ length rows
   less_room = ap length (same row) ∙ length-set rows i (get_or rows (n - 1) row)

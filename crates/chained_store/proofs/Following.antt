@@ -3,14 +3,14 @@ use Rattle.std.proofs.Common.{◌≡◌, ℕ, ◌+◌, ◌-◌, ◌<◌, ◌≤�
 use Rattle.std.proofs.lemmas.List.{get_or_default}
 use Rattle.stores.specs.declared.row.Row.{Row}
 use Rattle.chained_store.specs.Buckets.{chain_of, hashes, bucket_of}
-use Rattle.chained_store.specs.Chains.{InOrder}
+use Rattle.chained_store.specs.Chains.{Chains, Below}
 use Rattle.chained_store.specs.Entering.{Leads}
-use Rattle.chained_store.proofs.Buckets.{bucket_in, chain_of_bucket, chain_of_row, chain_of_key, link_next}
+use Rattle.chained_store.proofs.Buckets.{bucket_in, chain_of_bucket, chain_of_row, chain_of_key, link_falls}
 
 -- the link is to a row of the key's bucket, and each row that has the key is on what is left of the chain
 pub record Seeking {K R : Type 0} (digest : K → ℕ) (rows : List (Row K R)) (links : List ℕ) (n : ℕ) (k : K) (link : ℕ) : Type 0 where
   pub low : link ≤ n
-  pub chain : 0 < link → chain_of (hashes digest rows) (length links) (link - 1) ≡ bucket_of (digest k) (length rows) (length links)
+  pub chain : (i : ℕ) → link ≡ i + 1 → chain_of (hashes digest rows) (length links) i ≡ bucket_of (digest k) (length rows) (length links)
   pub ahead : (j : ℕ) (d : Row K R) → j < n → (get_or rows j d).key ≡ k → j < link
 
 -- the place is on the chain of the row x, and after x
@@ -21,44 +21,47 @@ pub record Nearing {K R : Type 0} (digest : K → ℕ) (rows : List (Row K R)) (
   pub chain : chain_of (hashes digest rows) (length links) p ≡ chain_of (hashes digest rows) (length links) x
 
 module _ {K R : Type 0} (digest : K → ℕ) (rows : List (Row K R)) (links : List ℕ) (n : ℕ) where
-  pub seek_first : (k : K) → InOrder digest rows links n → Seeking digest rows links n k (get_or links (bucket_of (digest k) (length rows) (length links)) 0)
+  pub seek_first : (k : K) → Chains digest rows links (Below n) → Seeking digest rows links n k (get_or links (bucket_of (digest k) (length rows) (length links)) 0)
   seek_first k s =
-      let ch = s.chains in
       let p = bucket_of (digest k) (length rows) (length links) in
-      let a : p < length links = bucket_in (digest k) (length rows) (length links) ch.wide in
+      let a : p < length links = bucket_in (digest k) (length rows) (length links) s.wide in
       let own : p < length rows → p < n = λ z. absurd (omega arith) in
       let t = chain_of_bucket digest rows (length links) p (omega arith) in
-      let next = link_next digest rows links n p ch a own in
       record {
-        low = next.0;
-        chain = λ z. next.2 z ∙ t;
-        ahead = λ j d z q. (let f : j < length rows = ch.low j z in ch.pass p j (a, own, z, omega arith, chain_of_key digest rows links j d k f q ∙ sym t));
+        low = (link_falls digest rows links n p s a own).0;
+        chain = λ i e. (s.lead p i (a, own, e)).2 ∙ t;
+        ahead = λ j d z q. (let f : j < length rows = s.low j z in s.pass p j (a, own, z, omega arith, chain_of_key digest rows links j d k f q ∙ sym t));
       }
 
-  module _ (link : ℕ) (z : 0 < link) (k : K) (s : InOrder digest rows links n) (w : Seeking digest rows links n k link) where
-    row_in_use : link - 1 < n
-    row_in_use = let l = w.low in omega arith
+  -- the row i that a link is to
+  module _ (link i : ℕ) (to : (1 ≤ link) × (i ≡ link - 1)) (k : K) (s : Chains digest rows links (Below n)) (w : Seeking digest rows links n k link) where
+    in_use : i < n
+    in_use = omega (arith, to.0, to.1, w.low)
 
-    pub row_there : link - 1 < length rows
-    row_there = s.chains.low (link - 1) row_in_use
+    pub row_there : i < length rows
+    row_there = s.low i in_use
 
-    pub link_there : link - 1 < length links
-    link_there = let a = row_there in let b = s.chains.wide in omega arith
+    pub link_there : i < length links
+    link_there = omega (arith, row_there, s.wide)
 
-    pub seek_falls : get_or links (link - 1) 0 < link
-    seek_falls = omega (arith, (link_next digest rows links n (link - 1) s.chains link_there (λ _. row_in_use)).1)
+    own : i < length rows → i < n
+    own _ = in_use
 
-    pub seek_next : ((d : Row K R) → (get_or rows (link - 1) d).key ≡ k → ⊥) → Seeking digest rows links n k (get_or links (link - 1) 0)
-    seek_next other =
-        let own : link - 1 < length rows → link - 1 < n = λ _. row_in_use in
-        let next = link_next digest rows links n (link - 1) s.chains link_there own in
-        record {
-          low = next.0;
-          chain = λ y. next.2 y ∙ w.chain z;
-          ahead = λ j d y q. (let m = w.ahead j d y q in
-              let ne : j ≢ link - 1 = λ i. other d (ap (λ v. (get_or rows v d).key) (sym i) ∙ q) in
-              s.chains.pass (link - 1) j (link_there, own, y, omega arith, chain_of_key digest rows links j d k (s.chains.low j y) q ∙ sym (w.chain z)));
-        }
+    chain : chain_of (hashes digest rows) (length links) i ≡ bucket_of (digest k) (length rows) (length links)
+    chain = w.chain i (omega (arith, to.0, to.1))
+
+    pub seek_falls : get_or links i 0 < link
+    seek_falls = omega (arith, to.0, to.1, (link_falls digest rows links n i s link_there own).1)
+
+    pub seek_next : ((d : Row K R) → (get_or rows i d).key ≢ k) → Seeking digest rows links n k (get_or links i 0)
+    seek_next other = record {
+      low = (link_falls digest rows links n i s link_there own).0;
+      chain = λ j e. (s.lead i j (link_there, own, e)).2 ∙ chain;
+      ahead = λ j d y q. (let m = w.ahead j d y q in
+          let ne : j ≢ i = λ e. other d (ap (λ v. (get_or rows v d).key) (sym e) ∙ q) in
+          let b : j < i = omega (arith, to.0, to.1) in
+          s.pass i j (link_there, own, y, b, chain_of_key digest rows links j d k (s.low j y) q ∙ sym chain));
+    }
 
   module _ (x : ℕ) where
     pub near_first : (d : Row K R) → x < length rows → length rows < length links → Nearing digest rows links n x (bucket_of (digest (get_or rows x d).key) (length rows) (length links))
@@ -72,17 +75,18 @@ module _ {K R : Type 0} (digest : K → ℕ) (rows : List (Row K R)) (links : Li
           chain = chain_of_bucket digest rows (length links) p (omega arith) ∙ sym (chain_of_row digest rows (length links) x (get_or rows x d) a (get_or_default rows x d (get_or rows x d) a));
         }
 
-    module _ (p : ℕ) (leads : Leads digest rows links n x) (w : Nearing digest rows links n x p) (far : x + 1 < get_or links p 0) where
-      down : (get_or links p 0 - 1 < p) × (get_or links p 0 - 1 < n) × (chain_of (hashes digest rows) (length links) (get_or links p 0 - 1) ≡ chain_of (hashes digest rows) (length links) p)
-      down = leads p (get_or links p 0 - 1) (w.within, w.used, w.after, omega arith)
+    -- the row i that the link at the place is to
+    module _ (p i : ℕ) (leads : Leads digest rows links n x) (w : Nearing digest rows links n x p) (to : (1 ≤ get_or links p 0) × (i ≡ get_or links p 0 - 1)) (far : x < i) where
+      down : (i < p) × (i < n) × (chain_of (hashes digest rows) (length links) i ≡ chain_of (hashes digest rows) (length links) p)
+      down = leads p i (w.within, w.used, w.after, omega (arith, to.0, to.1))
 
-      pub near_falls : get_or links p 0 - 1 < p
+      pub near_falls : i < p
       near_falls = down.0
 
-      pub near_next : Nearing digest rows links n x (get_or links p 0 - 1)
+      pub near_next : Nearing digest rows links n x i
       near_next = record {
-        within = let a = down.0 in let b = w.within in omega arith;
+        within = omega (arith, down.0, w.within);
         used = λ _. down.1;
-        after = omega arith;
+        after = far;
         chain = down.2 ∙ w.chain;
       }

@@ -1,5 +1,5 @@
 -- The bucket of a hash, and the chain that a place is on. There is a link for each row, and after these one for each bucket.
-use Rattle.std.specs.Prelude.{ℕ, ◌+◌, ◌-◌, ◌%◌, cond, List, map, length, nat_lt, slice_index}
+use Rattle.std.specs.Prelude.{ℕ, ◌+◌, ◌-◌, ◌%◌, if◌then◌else◌, List, map, length, nat_lt, slice_index}
 use Rattle.stores.specs.declared.row.Row.{Row}
 
 abbrev pub hashes : {K R : Type 0} → (K → ℕ) → List (Row K R) → List ℕ
@@ -11,4 +11,4 @@ bucket_of hash room w = room + hash % (w - room)
 
 -- the bucket whose chain the place p is on, where the rows have the hashes hs
 abbrev pub chain_of : List ℕ → ℕ → ℕ → ℕ
-chain_of hs w p = cond (nat_lt p (length hs)) (bucket_of (slice_index hs p) (length hs) w) p
+chain_of hs w p = (if nat_lt p (length hs) then bucket_of (slice_index hs p) (length hs) w else p)

@@ -1,7 +1,7 @@
 -- Rows in chains. A link is 0, which leads nowhere, or one more than a row's number; a chain starts at its bucket and has the bucket's rows, the last first.
 use Rattle.std.specs.Prelude.{◌≡◌, ℕ, ◌+◌, ◌<◌, Bool, List, length, slice_index}
 use Rattle.stores.specs.Maps.{Empty}
-use Rattle.stores.specs.Rows.{Dense, held}
+use Rattle.stores.specs.Rows.{held}
 use Rattle.stores.specs.declared.row.Row.{Row}
 use Rattle.chained_store.specs.Buckets.{hashes, chain_of}
 
@@ -24,13 +24,7 @@ pub record Chains {K R : Type 0} (digest : K → ℕ) (rows : List (Row K R)) (l
 abbrev pub Below : ℕ → ℕ → Type 0
 Below n j = j < n
 
--- a store of n rows in order: no key stands twice, and all rows are in chains
-pub record InOrder {K R : Type 0} (digest : K → ℕ) (rows : List (Row K R)) (links : List ℕ) (n : ℕ) : Type 0 where
-  pub dense : Dense rows n
-  pub chains : Chains digest rows links (Below n)
-
--- a new store over that many rows: in order, and with no key
-pub record New {K R : Type 0} (like : K → K → Bool) (digest : K → ℕ) (room : ℕ) (rows : List (Row K R)) (links : List ℕ) (n : ℕ) : Type 0 where
-  pub sound : InOrder digest rows links n
+-- a new store over that many rows: it has no key
+pub record New {K R : Type 0} (like : K → K → Bool) (room : ℕ) (rows : List (Row K R)) (n : ℕ) : Type 0 where
   pub empty : Empty (held like rows n)
   pub room_is : length rows ≡ room

@@ -1,33 +1,45 @@
-ghost use Rattle.std.specs.Prelude.{◌≤◌, length, take, MatchOption};
-ghost use Rattle.stores.specs.Rows.{held, keys_of};
+ghost use Rattle.std.specs.Prelude.{◌≡◌, ◌≤◌, length, take, MatchOption};
+ghost use Rattle.stores.specs.Rows.{Dense, held, keys_of};
 ghost use Rattle.stores.proofs.Numbered.{rows_number};
-ghost use Rattle.chained_store.specs.Chains.{InOrder, New};
+ghost use Rattle.chained_store.specs.Chains.{New};
 
+use crate::linked::Linked;
+use crate::table::Table;
 use keys::Key;
-use stores::{Row, Store, read_key, read_record};
+use stores::{Row, Store, StoreFull, fill};
 
-// The rows and links that the caller lends, and how many rows are in use, from the first on.
+// Rows in chains, of which no two have one key.
 #[derive(Drop)]
 pub struct Chained<'a, K: Key + Copy, R: Copy> {
-    pub(crate) rows: &'a mut [Row<K, R>],
-    pub(crate) links: &'a mut [usize],
-    pub(crate) used: usize,
+    linked: Linked<'a, K, R>,
+    ghost dense: { Dense linked.table.rows.now linked.table.used },
 }
 
 impl<'a, K: Key + Copy, R: Copy> Chained<'a, K, R> {
     // A store with no key, whose room is the number of the rows; each link past theirs is a bucket's. None where there is no bucket.
     pub fn over(rows: &'a mut [Row<K, R>], links: &'a mut [usize]) -> Option<Self>
-        ensures { MatchOption result (length links.old ≤ length rows.old) (λ s. New K.Key.alike K.Key.digest (length rows.old) s.rows.now s.links.now s.used) }
+        ensures { MatchOption result (length links.old ≤ length rows.old) (λ s. New K.Key.alike (length rows.old) s.linked.table.rows.now s.linked.table.used) }
     {
         if links.len() <= rows.len() {
             return None;
         }
         links.fill(0);
-        Some(Chained {
+        let table = Table {
             rows,
             links,
             used: 0,
+        };
+        Some(Chained {
+            linked: Linked { table },
         })
+    }
+
+    // The key's record.
+    fn get(&self, key: &K) -> Option<R>
+        ensures { result ≡ (held K.Key.alike self.now.linked.table.rows.now self.now.linked.table.used).at key.now }
+    {
+        let i = self.linked.place_of(key)?;
+        Some(self.linked.table.rows[i].value)
     }
 }
 
@@ -36,52 +48,45 @@ impl<'a, K: Key + Copy, R: Copy> Store for Chained<'a, K, R> {
 
     type Record = R;
 
-    ghost sound = { λ s. InOrder K.Key.digest s.rows.now s.links.now s.used };
+    ghost holds = { λ s. held K.Key.alike s.linked.table.rows.now s.linked.table.used };
 
-    ghost holds = { λ s. held K.Key.alike s.rows.now s.used };
+    ghost most = { λ s. length s.linked.table.rows.now };
 
-    ghost most = { λ s. length s.rows.now };
+    ghost keys = { λ s. keys_of (take s.linked.table.used s.linked.table.rows.now) };
 
-    ghost fits = { λ s h. h.dense.fits };
+    ghost fits = { λ s. s.dense.fits };
 
-    ghost keys = { λ s. keys_of (take s.used s.rows.now) };
-
-    ghost numbers = { λ s h. rows_number K.Key.alike K.Key.equal s.rows.now s.used h.dense };
+    ghost numbers = { λ s. rows_number K.Key.alike K.Key.equal s.linked.table.rows.now s.linked.table.used s.dense };
 
     fn room(&self) -> usize {
-        self.rows.len()
+        self.linked.table.rows.len()
     }
 
     fn find(&self, key: &K, place: &mut R) -> bool {
-        read_record(&self.rows[..self.used], self.place_of(key), place)
+        fill(place, self.get(key))
     }
 
-    fn put(&mut self, key: K, value: R) -> bool {
-        let used = self.used;
-        let i = self.place_of(&key);
-        if i < used {
-            self.rows[i] = Row { key, value };
-            true
-        } else if used < self.rows.len() {
-            self.rows[used] = Row { key, value };
-            self.link(used);
-            self.used = used + 1;
-            true
-        } else {
-            false
+    fn put(&mut self, key: K, value: R) -> Result<(), StoreFull> {
+        match self.linked.place_of(&key) {
+            Some(i) => self.linked.table.rows[i] = Row { key, value },
+            None if self.linked.table.used < self.linked.table.rows.len() => {
+                self.linked.push(Row { key, value });
+            }
+            None => return Err(StoreFull),
         }
+        Ok(())
     }
 
     fn remove(&mut self, key: &K) -> bool {
-        let i = self.place_of(key);
-        if i >= self.used {
+        let Some(i) = self.linked.place_of(key) else {
             return false;
-        }
-        self.take_out(i);
+        };
+        self.linked.swap_remove(i);
         true
     }
 
     fn walk(&self, number: usize, place: &mut K) -> bool {
-        read_key(&self.rows[..self.used], number, place)
+        let rows = &self.linked.table.rows[..self.linked.table.used];
+        fill(place, rows.get(number).map(|row| row.key))
     }
 }

@@ -2,6 +2,7 @@
 #![tactic(auto)]
 
 mod chained;
-mod links;
+mod linked;
+mod table;
 
 pub use chained::Chained;

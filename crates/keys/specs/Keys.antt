@@ -1,9 +1,8 @@
--- When two keys are alike, part by part, and what their hashes are.
-use Rattle.std.specs.Prelude.{ℕ, Bool, true, false, ◌&&◌, ◌==◌}
+-- When two keys are alike, part by part.
+use Rattle.std.specs.Prelude.{Bool, true, false, ◌&&◌, ◌==◌}
 use Rattle.std.specs.Str.{bytes_eq}
 use Rattle.names.specs.Spelling.{spelling}
 use Rattle.names.specs.declared.name.Name.{Name}
-use Rattle.keys.specs.Hashing.{mixed_all}
 use Rattle.keys.specs.declared.activation.ActivationKey.{ActivationKey}
 use Rattle.keys.specs.declared.activation.NameKind.{NameKind}
 use Rattle.keys.specs.declared.activation.NameKind.TheVariants.{Rule, Group}
@@ -23,9 +22,3 @@ like_rule x y = x.bearer == y.bearer && like_name x.name y.name
 
 abbrev pub like_activation : ActivationKey → ActivationKey → Bool
 like_activation x y = x.bearer == y.bearer && (like_kind x.kind y.kind && like_name x.name y.name)
-
-abbrev pub rule_digest : RuleKey → ℕ
-rule_digest k = mixed_all k.bearer (spelling k.name)
-
-abbrev pub activation_digest : ActivationKey → ℕ
-activation_digest k = mixed_all k.bearer (spelling k.name)

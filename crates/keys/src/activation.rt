@@ -1,12 +1,13 @@
-ghost use Rattle.keys.specs.Keys.{like_activation, activation_digest};
-ghost use Rattle.keys.specs.Laws.{activation_equal, activation_hashes};
+ghost use Rattle.keys.specs.Keys.{like_activation};
+ghost use Rattle.keys.specs.Hashing.{name_digest};
+ghost use Rattle.keys.specs.Laws.{activation_equal, equal_hashes};
 
-use crate::hashing::hash_octets;
+use crate::hashing::hash_name;
 use crate::key::Key;
 use names::Name;
 
 // Whose name it is. A rule's name and a group's are never one name.
-#[derive(Clone, Copy, PartialEq)]
+#[derive(Clone, Copy, PartialEq, Eq)]
 pub enum NameKind {
     Rule,
     Group,
@@ -14,7 +15,7 @@ pub enum NameKind {
 
 // The key of an activation, a predefined rule or a group of them switched on at a bearer: the bearer, and the rule's or the
 // group's name.
-#[derive(Clone, Copy)]
+#[derive(Clone, Copy, PartialEq, Eq)]
 pub struct ActivationKey {
     pub bearer: u8,
     pub kind: NameKind,
@@ -24,20 +25,20 @@ pub struct ActivationKey {
 impl Key for ActivationKey {
     ghost alike = { like_activation };
 
-    ghost digest = { activation_digest };
+    ghost digest = { λ k. name_digest k.bearer k.name };
 
     ghost owner = { λ k. k.bearer };
 
     ghost equal = { activation_equal };
 
-    ghost hashes = { activation_hashes };
+    ghost hashes = { equal_hashes _ activation_equal };
 
     fn is_like(&self, other: &ActivationKey) -> bool {
-        self.bearer == other.bearer && (self.kind == other.kind && self.name == other.name)
+        self == other
     }
 
     fn hash(&self) -> u64 {
-        hash_octets(self.bearer as u64, self.name.octets())
+        hash_name(self.bearer, &self.name)
     }
 
     fn bearer(&self) -> u8 {

@@ -1,13 +1,14 @@
 ghost use Rattle.std.specs.Prelude.{◌≡◌};
-ghost use Rattle.keys.specs.Hashing.{mixed_all};
+ghost use Rattle.keys.specs.Hashing.{name_digest};
 
-// The hash of a start and of octets after it.
-pub(crate) fn hash_octets(start: u64, octets: &[u8]) -> u64
-    ensures { result ≡ mixed_all start octets.now }
+use names::Name;
+
+// The hash of a name at a bearer.
+pub(crate) fn hash_name(bearer: u8, name: &Name) -> u64
+    ensures { result ≡ name_digest bearer name.now }
 {
-    let mut hash = start;
-    for octet in octets {
-        hash = hash.wrapping_mul(31).wrapping_add(*octet as u64);
-    }
-    hash
+    name.octets().iter().fold(
+        u64::from(bearer),
+        |hash, octet| hash.wrapping_mul(31).wrapping_add(u64::from(*octet)),
+    )
 }

@@ -9,12 +9,6 @@ pub trait Key {
 
     ghost owner: { Self → ℕ };
 
-    // Keys are alike exactly when they are equal, in all their parts.
-    ghost equal: { (x y : Self) → Decides (alike x y) (x ≡ y) };
-
-    // Keys that are alike have the same hash.
-    ghost hashes: { (x y : Self) → alike x y ≡ true → digest x ≡ digest y };
-
     fn is_like(&self, other: &Self) -> bool
         ensures { result ≡ alike self.now other.now };
 
@@ -23,4 +17,10 @@ pub trait Key {
 
     fn bearer(&self) -> u8
         ensures { result ≡ owner self.now };
+
+    // Keys are alike exactly when they are equal, in all their parts.
+    ghost equal: { (x y : Self) → Decides (alike x y) (x ≡ y) };
+
+    // Keys that are alike have the same hash.
+    ghost hashes: { (x y : Self) → alike x y ≡ true → digest x ≡ digest y };
 }

@@ -1,12 +1,13 @@
-ghost use Rattle.keys.specs.Keys.{like_rule, rule_digest};
-ghost use Rattle.keys.specs.Laws.{rule_equal, rule_hashes};
+ghost use Rattle.keys.specs.Keys.{like_rule};
+ghost use Rattle.keys.specs.Hashing.{name_digest};
+ghost use Rattle.keys.specs.Laws.{rule_equal, equal_hashes};
 
-use crate::hashing::hash_octets;
+use crate::hashing::hash_name;
 use crate::key::Key;
 use names::Name;
 
 // A rule's key: the bearer at which it stands, and its name.
-#[derive(Clone, Copy)]
+#[derive(Clone, Copy, PartialEq, Eq)]
 pub struct RuleKey {
     pub bearer: u8,
     pub name: Name,
@@ -15,20 +16,20 @@ pub struct RuleKey {
 impl Key for RuleKey {
     ghost alike = { like_rule };
 
-    ghost digest = { rule_digest };
+    ghost digest = { λ k. name_digest k.bearer k.name };
 
     ghost owner = { λ k. k.bearer };
 
     ghost equal = { rule_equal };
 
-    ghost hashes = { rule_hashes };
+    ghost hashes = { equal_hashes _ rule_equal };
 
     fn is_like(&self, other: &RuleKey) -> bool {
-        self.bearer == other.bearer && self.name == other.name
+        self == other
     }
 
     fn hash(&self) -> u64 {
-        hash_octets(self.bearer as u64, self.name.octets())
+        hash_name(self.bearer, &self.name)
     }
 
     fn bearer(&self) -> u8 {

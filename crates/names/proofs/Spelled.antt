@@ -5,6 +5,10 @@ use native.Mathlib.Nat.{ℕ_set}
 use native.Mathlib.Bridge.{le_prop}
 use Rattle.std.proofs.lemmas.List.{get_or-take, length-take-le, get_or_default, same_lists}
 use Rattle.std.proofs.lemmas.Bool.{cases_lt}
+use Rattle.std.specs.Prelude.{Decides}
+use Rattle.std.specs.Str.{bytes_eq}
+use Rattle.std.proofs.lemmas.Slice.Eq.{bytes_eq-Decides}
+use Rattle.std.proofs.lemmas.Bool.Decides.{Decides-like}
 use Rattle.names.specs.declared.name.Name.{Name}
 use Rattle.names.specs.Spelling.{spelling}
 
@@ -36,3 +40,6 @@ same_name x y e =
     by_fields x y l
     (same_lists x.octets y.octets (x.whole ∙ sym y.whole)
     (λ k d a. get_or_default x.octets k d 0 a ∙ same_octet x y e l k ∙ get_or_default y.octets k 0 d (let b = x.whole in let c = y.whole in omega arith)))
+
+pub name_equal : (x y : Name) → Decides (bytes_eq (spelling x) (spelling y)) (x ≡ y)
+name_equal x y = Decides-like (bytes_eq (spelling x) (spelling y)) (same_name x y) (ap spelling) (bytes_eq-Decides (spelling x) (spelling y))

@@ -1,12 +1,8 @@
--- The order of two lists of octets, by one octet of each.
-use Rattle.std.proofs.Common.{◌≡◌, ℕ, ◌+◌, ◌<◌, ◌≤◌, List, [], ◌∷◌, length, get_or, drop, Less, Equal, Greater, ◌∙◌, arith}
-use Rattle.std.proofs.lemmas.List.{at_drop_more, at_drop_all}
+-- The order of two lists of octets from octet i on.
+use Rattle.std.proofs.Common.{◌≡◌, ℕ, ◌+◌, ◌<◌, ◌≤◌, List, [], ◌∷◌, length, get_or, drop, Less, Greater, ◌∙◌}
+use Rattle.std.proofs.lemmas.List.{at_drop_more, at_drop_all, drop_more, drop_all}
 use Rattle.std.proofs.lemmas.Bool.Decides.{nat_tests}
-use Rattle.names.specs.Order.{lexical, by_number}
-
-pub lexical_at : (a b : List ℕ) (i : ℕ) → i < length a → i < length b → lexical (drop i a) (drop i b) ≡ by_number (get_or a i 0) (get_or b i 0) (lexical (drop (i + 1) a) (drop (i + 1) b))
-lexical_at a b i h k =
-    at_drop_more (λ xs. lexical xs (drop i b)) a i 0 h ∙ at_drop_more (λ ys. lexical (get_or a i 0 ∷ drop (i + 1) a) ys) b i 0 k
+use Rattle.names.specs.Order.{lexical}
 
 pub lexical_longer : (a b : List ℕ) (i : ℕ) → i < length a → length b ≤ i → lexical (drop i a) (drop i b) ≡ Greater
 lexical_longer a b i h k =
@@ -16,14 +12,4 @@ pub lexical_shorter : (a b : List ℕ) (i : ℕ) → length a ≤ i → i < leng
 lexical_shorter a b i h k =
     at_drop_all (λ xs. lexical xs (drop i b)) a i h ∙ at_drop_more (λ ys. lexical [] ys) b i 0 k
 
-pub lexical_level : (a b : List ℕ) (i : ℕ) → length a ≤ i → length b ≤ i → lexical (drop i a) (drop i b) ≡ Equal
-lexical_level a b i h k = at_drop_all (λ xs. lexical xs (drop i b)) a i h ∙ at_drop_all (λ ys. lexical [] ys) b i k
-
-pub lexical_less : (a b : List ℕ) (i : ℕ) → i < length a → i < length b → get_or a i 0 < get_or b i 0 → lexical (drop i a) (drop i b) ≡ Less
-lexical_less a b i h k l = let e = lexical_at a b i h k in grind (arith, nat_tests)
-
-pub lexical_more : (a b : List ℕ) (i : ℕ) → i < length a → i < length b → get_or b i 0 < get_or a i 0 → lexical (drop i a) (drop i b) ≡ Greater
-lexical_more a b i h k l = let e = lexical_at a b i h k in grind (arith, nat_tests)
-
-pub lexical_same : (a b : List ℕ) (i : ℕ) → i < length a → i < length b → get_or a i 0 ≤ get_or b i 0 → get_or b i 0 ≤ get_or a i 0 → lexical (drop i a) (drop i b) ≡ lexical (drop (i + 1) a) (drop (i + 1) b)
-lexical_same a b i h k l m = let e = lexical_at a b i h k in grind (arith, nat_tests)
+pub ruleset steps = (drop_more, drop_all, lexical_longer, lexical_shorter, nat_tests)

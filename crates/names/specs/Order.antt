@@ -1,28 +1,21 @@
--- The order of names: octet by octet, and a shorter name that begins a longer one comes first.
+-- The order of names: octet by octet, and a shorter name that begins a longer one comes first, as slices of octets are ordered.
 -- TotalOrder is what any order must be: what ties is equal, turning two round turns the answer round, and what comes first of the first comes first.
-use Rattle.std.specs.Prelude.{◌≡◌, ℕ, cond, List, [], ◌∷◌, nat_lt}
-use Rattle.std.specs.declared.cmp.Ordering.TheVariants.{Less, Equal, Greater}
+use Rattle.std.specs.Prelude.{◌≡◌, ℕ, List}
 use Rattle.std.specs.declared.cmp.Ordering.{Ordering}
+use Rattle.std.specs.declared.cmp.Ordering.TheVariants.{Less, Equal}
+use Rattle.std.specs.Ordering.{ordering_reverse, nat_cmp, on}
+use Rattle.std.specs.Cmp.Lexicographic.{slice_cmp}
 use Rattle.names.specs.declared.name.Name.{Name}
 use Rattle.names.specs.Spelling.{spelling}
 
--- two numbers, and where they are equal what comes after
-abbrev pub by_number : ℕ → ℕ → Ordering → Ordering
-by_number x y after = cond (nat_lt x y) Less (cond (nat_lt y x) Greater after)
-
 abbrev pub lexical : List ℕ → List ℕ → Ordering
-lexical [] [] = Equal
-lexical [] (y ∷ ys) = Less
-lexical (x ∷ xs) [] = Greater
-lexical (x ∷ xs) (y ∷ ys) = by_number x y (lexical xs ys)
+lexical = slice_cmp nat_cmp
 
 abbrev pub by_name : Name → Name → Ordering
-by_name a b = lexical (spelling a) (spelling b)
+by_name = on spelling lexical
 
 abbrev pub turned : Ordering → Ordering
-turned Less = Greater
-turned Equal = Equal
-turned Greater = Less
+turned = ordering_reverse
 
 pub record TotalOrder {X : Type 0} (f : X → X → Ordering) : Type 0 where
   pub itself : (x : X) → f x x ≡ Equal

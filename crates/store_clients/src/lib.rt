@@ -5,4 +5,4 @@ mod clearing;
 mod counting;
 
 pub use clearing::remove_bearer;
-pub use counting::count;
+pub use counting::{count, key_at};

@@ -11,7 +11,7 @@ mod tests {
     use std::process::Abort;
     use std::test::Fail;
     use store_clients::{count, remove_bearer};
-    use stores::{Row, Store};
+    use stores::{Row, Store, StoreFull};
 
     fn name(octets: &[u8]) -> Result<Name, Fail> {
         let Some(name) = Name::new(octets) else {
@@ -81,19 +81,18 @@ mod tests {
         rt: &impl Abort,
         store: &mut S,
     ) -> Result<(), Fail>
-        requires { S.Store.sound store.old }
     {
         let (a, b, c) = (rule(1, b"a")?, rule(2, b"a")?, rule(1, b"c")?);
         let mut place = 7;
         assert!(rt; store.room() == 2);
         assert!(rt; !store.find(&a, &mut place) && place == 7);
-        assert!(rt; store.put(a, 5) && store.put(b, 6));
-        assert!(rt; !store.put(c, 8));
+        assert!(rt; store.put(a, 5).is_ok() && store.put(b, 6).is_ok());
+        assert!(rt; store.put(c, 8) == Err(StoreFull));
         assert!(rt; !store.find(&c, &mut place) && place == 7);
-        assert!(rt; store.put(a, 0));
+        assert!(rt; store.put(a, 0).is_ok());
         assert!(rt; store.find(&a, &mut place) && place == 0);
         assert!(rt; store.remove(&b) && !store.remove(&b));
-        assert!(rt; store.put(c, 8));
+        assert!(rt; store.put(c, 8).is_ok());
         assert!(rt; count(store, a) == 2);
         remove_bearer(store, 1, a);
         assert!(rt; count(store, a) == 0);

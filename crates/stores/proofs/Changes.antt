@@ -1,37 +1,21 @@
--- What finding, putting and removing do to rows, of which the first n are in use.
+-- What putting and removing do to rows, of which the first n are in use.
 use Rattle.std.proofs.Common.{◌≡◌, ℕ, ◌+◌, ◌-◌, ◌<◌, ◌≤◌, Bool, true, false, cond, not, ◌||◌, ltb, ◌≢◌, List, length, get_or, take, set, is_some, Some, None, Decides, sym, refl, ap, ◌∙◌, ⊎_elim, arith}
-use Rattle.std.proofs.lemmas.List.{get_or-take, length-take-le, get_or-set_same, get_or-set_other, length-set, get_or-map, get_or_past, length-map}
+use Rattle.std.proofs.lemmas.List.{get_or-set_same, get_or-set_other, length-set}
 use Rattle.std.proofs.lemmas.Bool.{cases_eq, cases_lt, lt-ltb, le-ltb}
-use Rattle.stores.specs.Functions.{Found, Put, Removed, or_else}
-use Rattle.stores.specs.Reading.{ReadAt}
-use Rattle.stores.specs.Places.{Place}
-use Rattle.stores.specs.Rows.{lookup, held, records_of, Dense}
+use Rattle.stores.specs.Functions.{Put, Removed}
+use Rattle.stores.specs.Places.{Absent, Here}
+use Rattle.stores.specs.Rows.{lookup, held, Dense}
 use Rattle.stores.specs.declared.row.Row.{Row}
-use Rattle.stores.proofs.Lookups.{Absent, row_set, place_absent, lookup_absent, lookup_row, lookup_kept, lookup_by_key}
+use Rattle.stores.proofs.Lookups.{row_set, lookup_absent, lookup_row, lookup_kept, lookup_by_key}
 
 module _ {K R : Type 0} (e : K → K → Bool) (equal : (x y : K) → Decides (e x y) (x ≡ y)) (rows : List (Row K R)) (n : ℕ) (h : Dense rows n) where
-  -- ---- finding: the record at the key's place is read
-  pub found_at : (k : K) (i : ℕ) (place place' : R) (r : Bool) → Place rows n k i → ReadAt (records_of (take n rows)) i place place' r → Found (held e rows n) k place place' r
-  found_at k i place place' r p f =
-      let len : length (records_of (take n rows)) ≡ n = length-map (take n rows) (λ x. x.value) ∙ length-take-le n rows h.fits in
-      ⊎_elim
-      (λ a. let x : Row K R = record { key = k; value = place } in
-      let s = lookup_row e equal rows n i x k h a (p.here x a) in
-      record {
-        answer = f.answer ∙ lt-ltb i _ (omega arith) ∙ sym (ap is_some s);
-        filled = f.filled ∙ get_or-map (λ y. y.value) (take n rows) i x place (omega (arith, length-take-le n rows h.fits)) ∙ ap (λ y. y.value) (get_or-take n rows i x a) ∙ sym (ap (λ o. or_else o place) s);
-      })
-      (λ a. let s = lookup_absent e equal rows n k (place_absent rows n i k p a) in
-      record {
-        answer = f.answer ∙ le-ltb i _ (omega arith) ∙ sym (ap is_some s);
-        filled = f.filled ∙ get_or_past (records_of (take n rows)) i place (omega arith) ∙ sym (ap (λ o. or_else o place) s);
-      })
-      (cases_lt i n)
-
   -- ---- putting: a key's row is written over
-  module _ (i : ℕ) (x : Row K R) (a : i < n) (at : Place rows n x.key i) where
+  module _ (i : ℕ) (x : Row K R) (at : Here rows n x.key i) where
+    a : i < n
+    a = at.within
+
     over_here : (d : Row K R) → (get_or rows i d).key ≡ x.key
-    over_here d = at.here d a
+    over_here d = at.key d
 
     pub over_keys : (j : ℕ) (d : Row K R) → (get_or (set rows i x) j d).key ≡ (get_or rows j d).key
     over_keys j d =
@@ -105,9 +89,12 @@ module _ {K R : Type 0} (e : K → K → Bool) (equal : (x y : K) → Decides (e
       }
 
   -- ---- removing: the last row takes the place of the one that goes
-  module _ (i : ℕ) (k : K) (x : Row K R) (a : i < n) (at : Place rows n k i) (last : (d : Row K R) → x ≡ get_or rows (n - 1) d) where
+  module _ (i : ℕ) (k : K) (x : Row K R) (at : Here rows n k i) (last : (d : Row K R) → x ≡ get_or rows (n - 1) d) where
+    b : i < n
+    b = at.within
+
     less_here : (d : Row K R) → (get_or rows i d).key ≡ k
-    less_here d = at.here d a
+    less_here d = at.key d
 
     in_rows : i < length rows
     in_rows = let l = h.fits in omega arith
@@ -134,7 +121,7 @@ module _ {K R : Type 0} (e : K → K → Bool) (equal : (x y : K) → Decides (e
         h.apart i (n - 1) d (omega arith) (omega arith) (less_here d ∙ sym r ∙ ap (λ y. y.key) t.1 ∙ ap (λ y. y.key) (last d)))
         (λ t. let ne : j ≢ i = t.0 in
         let k' : (get_or rows j d).key ≡ k = sym (ap (λ y. y.key) t.1) ∙ r in
-        ⊎_elim (λ z. h.apart j i d z a (k' ∙ sym (less_here d))) (λ z. h.apart i j d (omega arith) (omega arith) (less_here d ∙ sym k')) (cases_lt j i))
+        ⊎_elim (λ z. h.apart j i d z b (k' ∙ sym (less_here d))) (λ z. h.apart i j d (omega arith) (omega arith) (less_here d ∙ sym k')) (cases_lt j i))
         (row_set rows i j x d in_rows)
 
     less_lookups : (q : K) → lookup e (take (n - 1) (set rows i x)) q ≡ cond (e q k) None (lookup e (take n rows) q)
@@ -152,7 +139,7 @@ module _ {K R : Type 0} (e : K → K → Bool) (equal : (x y : K) → Decides (e
 
     pub removed_one : Removed e (held e rows n) k true (held e (set rows i x) (n - 1))
     removed_one =
-        let s = lookup_row e equal rows n i x k h a (less_here x) in
+        let s = lookup_row e equal rows n i x k h b (less_here x) in
         record { answer = sym (ap is_some s); records = less_lookups; counted = omega arith }
 
   -- ---- removing: the key is not there

@@ -1,4 +1,3 @@
-pub mod ByNumber
 pub mod Lookups
 pub mod Changes
 pub mod Numbered

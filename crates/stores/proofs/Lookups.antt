@@ -1,14 +1,14 @@
 -- The record of a key, by the place of its row.
-use Rattle.std.proofs.Common.{◌≡◌, ℕ, zero, suc, ◌+◌, ◌<◌, ◌≤◌, Bool, true, false, cond, ◌⊎◌, List, [], ◌∷◌, length, get_or, take, set, Some, None, Decides, Option, sym, refl, ap, ◌∙◌, inl, inr, ⊎_elim, arith}
-use Rattle.std.proofs.lemmas.List.{get_or-take, length-take-le, get_or-set_same, get_or-set_other, get_or_default, get_or_read}
+use Rattle.std.proofs.Common.{◌≡◌, ℕ, zero, suc, ◌<◌, ◌≤◌, Bool, true, false, cond, ◌⊎◌, List, [], ◌∷◌, length, get_or, take, set, Some, None, Decides, Option, sym, refl, ap, ◌∙◌, inl, inr, ⊎_elim, arith}
+use Rattle.std.proofs.lemmas.List.{get_or-take, length-take-le, get_or-set_same, get_or-set_other, get_or_default}
 use Rattle.std.proofs.lemmas.Bool.{cases_Bool, cond-true, cond-false, both_ways, cases_eq}
-use Rattle.stores.specs.Places.{Place}
+use Rattle.std.specs.List.{position, position_or_len}
+use Rattle.std.proofs.lemmas.Grind.{common_steps}
+use Rattle.std.proofs.lemmas.List.Quantifiers.{position-Some}
+use Rattle.std.proofs.lemmas.List.Sums.{fails_before_first}
+use Rattle.stores.specs.Places.{Absent, Place}
 use Rattle.stores.specs.Rows.{lookup, Dense}
 use Rattle.stores.specs.declared.row.Row.{Row}
-
--- no key of the first n rows is k
-abbrev pub Absent : {K R : Type 0} → List (Row K R) → ℕ → K → Type 0
-Absent {K} {R} rows n k = (j : ℕ) (d : Row K R) → j < n → (get_or rows j d).key ≡ k → ⊥
 
 -- a row after a write
 pub row_set : {K R : Type 0} (rows : List (Row K R)) (i j : ℕ) (x d : Row K R) → i < length rows → ((j ≡ i) × (get_or (set rows i x) j d ≡ x)) ⊎ ((j ≡ i → ⊥) × (get_or (set rows i x) j d ≡ get_or rows j d))
@@ -17,39 +17,33 @@ row_set rows i j x d l =
     (λ ne. inr (ne, get_or-set_other rows i j x d ne))
     (cases_eq j i)
 
--- a place that is not below n is that of no row
-pub place_absent : {K R : Type 0} (rows : List (Row K R)) (n i : ℕ) (k : K) → Place rows n k i → n ≤ i → Absent rows n k
-place_absent rows n i k p a j d = p.absent j d (let b = p.within in omega arith)
+-- the first of the rows in use that passes a test for the key k
+module _ {K R : Type 0} (e : K → K → Bool) (equal : (x y : K) → Decides (e x y) (x ≡ y)) (rows : List (Row K R)) (n : ℕ) (k : K) (l : n ≤ length rows) where
+  abbrev like : Row K R → Bool
+  like row = e row.key k
 
--- a search through the rows: one row more that has another key; the row that has it; no such row
-module _ {K R : Type 0} (rows : List (Row K R)) (i : ℕ) (k : K) where
-  pub absent_more : (x : Row K R) → Absent rows i k → i < length rows → x ≡ get_or rows i x → (x.key ≡ k → ⊥) → Absent rows (i + 1) k
-  absent_more x b l is other j d a p =
-      ⊎_elim (λ (q : j ≡ i). other (ap (λ y. y.key) (get_or_read rows i x l is d) ∙ ap (λ m. (get_or rows m d).key) (sym q) ∙ p))
-      (λ ne. b j d (omega arith) p) (cases_eq j i)
+  front : (i : ℕ) (d : Row K R) → i < n → (get_or (take n rows) i d).key ≡ (get_or rows i d).key
+  front i d a = ap (λ x. x.key) (get_or-take n rows i d a)
 
-  pub place_here : (x : Row K R) → i < length rows → x ≡ get_or rows i x → x.key ≡ k → Place rows (length rows) k i
-  place_here x l is e = record {
-    within = omega arith;
-    here = λ d a. sym (ap (λ y. y.key) (get_or_read rows i x l is d)) ∙ e;
-    absent = λ j d p. absurd (omega arith);
+  past : position like (take n rows) ≡ None → length (take n rows) ≤ position_or_len like (take n rows)
+  past e = grind (arith, common_steps)
+
+  found_in : (i : ℕ) → position like (take n rows) ≡ Some i → i < length (take n rows)
+  found_in i e = grind (arith, common_steps)
+
+  -- the place that is found is the key's
+  pub place_found : (o : Option ℕ) → o ≡ position like (take n rows) → Place rows n k o
+  place_found None is = λ j d a p.
+      let none = past (sym is) in
+      both_ways _ (fails_before_first like (take n rows) j d (omega (arith, none, length-take-le n rows l))) ((equal _ k).1 (front j d a ∙ p))
+  place_found (Some i) is = record {
+    within = omega (arith, found_in i (sym is), length-take-le n rows l);
+    key = λ d. (let t = position-Some like (take n rows) i d (sym is) in
+        sym (front i d (omega (arith, length-take-le n rows l, t.0))) ∙ (equal _ k).0 t.1);
   }
 
-pub place_none : {K R : Type 0} (rows : List (Row K R)) (k : K) → Absent rows (length rows) k → Place rows (length rows) k (length rows)
-place_none rows k b = record { within = omega arith; here = λ d a. absurd (omega arith); absent = λ j d _ a. b j d a }
-
--- a place among the rows in use, which lie before the others
-pub place_in_front : {K R : Type 0} (rows : List (Row K R)) (n i : ℕ) (k : K) → n ≤ length rows → Place (take n rows) (length (take n rows)) k i → Place rows n k i
-place_in_front rows n i k l p =
-    let len = length-take-le n rows l in
-    record {
-      within = let a = p.within in omega arith;
-      here = λ d a. sym (ap (λ x. x.key) (get_or-take n rows i d a)) ∙ p.here d (omega arith);
-      absent = λ j d a b q. p.absent j d (omega arith) (omega arith) (ap (λ x. x.key) (get_or-take n rows j d b) ∙ q);
-    }
-
 module _ {K : Type 0} (e : K → K → Bool) (equal : (x y : K) → Decides (e x y) (x ≡ y)) where
-  unlike : (x y : K) → (x ≡ y → ⊥) → e x y ≡ false
+  pub unlike : (x y : K) → (x ≡ y → ⊥) → e x y ≡ false
   unlike x y p = ⊎_elim (λ t. absurd (p ((equal x y).0 t))) (λ f. f) (cases_Bool (e x y))
 
   module _ {R : Type 0} where

@@ -1,10 +1,10 @@
 // The interface of rule stores, and the rows that the delivered stores lie in.
 #![tactic(auto)]
 
-mod reading;
+mod filling;
 mod row;
 mod store;
 
-pub use reading::{read_key, read_record};
+pub use filling::fill;
 pub use row::Row;
-pub use store::Store;
+pub use store::{Store, StoreFull};

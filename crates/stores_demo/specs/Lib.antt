@@ -1,2 +1,1 @@
-pub mod InStep
 pub mod Samples

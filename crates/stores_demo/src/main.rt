@@ -6,15 +6,13 @@ mod passes;
 mod samples;
 mod tally;
 
-ghost use Rattle.stores_demo.specs.InStep.{InStep};
-
 use anyhow::anyhow;
 use chained_store::Chained;
 use flat_store::Flat;
 use keys::Key;
 use pair::Pair;
 use passes::{find_all, put_all, remove_all, walk_all};
-use samples::{activation_keys, rule_keys};
+use samples::{KEYS, activation_keys, rule_keys};
 use std::io;
 use stores::{Row, Store};
 use tally::Tally;
@@ -40,9 +38,7 @@ fn run<
     K: Key + Copy,
     A: Store<Key = K, Record = u32> + Drop,
     B: Store<Key = K, Record = u32> + Drop,
->(rt: &HostRuntime, pair: &mut Pair<K, A, B>, keys: &[K], scratch: K) -> io::Result<()>
-    requires { InStep A.Store.sound A.Store.holds A.Store.most B.Store.sound B.Store.holds B.Store.most pair.old }
-{
+>(rt: &HostRuntime, pair: &mut Pair<K, A, B>, keys: &[K], scratch: K) -> io::Result<()> {
     report(rt, "put 12 keys: taken", put_all(pair, keys, 7))?;
     report(rt, "find 12 keys: found", find_all(pair, keys))?;
     report(
@@ -65,23 +61,23 @@ fn run<
 }
 
 // Makes both stores for a kind of key, and runs them.
-fn run_kind<K: Key + Copy>(
-    rt: &HostRuntime,
-    keys: &[K],
-    scratch: K,
-    flat_rows: &mut [Row<K, u32>],
-    chained_rows: &mut [Row<K, u32>],
-) -> anyhow::Result<()> {
-    let room = flat_rows.len();
-    if chained_rows.len() != room {
-        return Err(anyhow!("the stores have not the same room"));
-    }
+fn run_kind<K: Key + Copy>(rt: &HostRuntime, what: &str, keys: &[K; KEYS]) -> anyhow::Result<()> {
+    let scratch = keys[0];
+    let row = Row {
+        key: scratch,
+        value: 0,
+    };
+    let mut flat_rows = vec![in rt.alloc(); row; ROOM]?;
+    let mut chained_rows = vec![in rt.alloc(); row; ROOM]?;
     let mut links = [0; LINKS];
-    let Some(chained) = Chained::over(chained_rows, &mut links) else {
+    let Some(chained) = Chained::over(&mut chained_rows, &mut links) else {
         return Err(anyhow!("there is no link for a bucket"));
     };
-    println!(rt; "room for {room}")?;
-    let mut pair = Pair::new(Flat::over(flat_rows), chained);
+    let Some(mut pair) = Pair::matched(Flat::over(&mut flat_rows), chained, scratch) else {
+        return Err(anyhow!("the stores have not the same room"));
+    };
+    println!(rt; "{what}")?;
+    println!(rt; "room for {ROOM}")?;
     run(rt, &mut pair, keys, scratch)?;
     Ok(())
 }
@@ -90,24 +86,6 @@ fn main(rt: HostRuntime) -> anyhow::Result<()> {
     let (Some(rules), Some(activations)) = (rule_keys(), activation_keys()) else {
         return Err(anyhow!("a name has no octet, or too many"));
     };
-    let mut rows = [Row {
-        key: rules[0],
-        value: 0,
-    }; ROOM];
-    let mut chained_rows = rows;
-    println!(rt; "rule keys")?;
-    run_kind(&rt, &rules, rules[0], &mut rows, &mut chained_rows)?;
-    let mut rows = [Row {
-        key: activations[0],
-        value: 0,
-    }; ROOM];
-    let mut chained_rows = rows;
-    println!(rt; "activation keys")?;
-    run_kind(
-        &rt,
-        &activations,
-        activations[0],
-        &mut rows,
-        &mut chained_rows,
-    )
+    run_kind(&rt, "rule keys", &rules)?;
+    run_kind(&rt, "activation keys", &activations)
 }

@@ -1,12 +1,13 @@
-ghost use Rattle.std.specs.Prelude.{◌≡◌, true};
+ghost use Rattle.std.specs.Prelude.{◌≡◌, true, is_some, IfSome};
 ghost use Rattle.stores.specs.Maps.{Empty};
-ghost use Rattle.stores_demo.specs.InStep.{InStep};
+ghost use Rattle.stores.specs.Functions.{Put, Removed};
+ghost use Rattle.store_clients.specs.Clearing.{Cleared};
 
 use keys::Key;
-use store_clients::{count, remove_bearer};
+use store_clients::{count, key_at, remove_bearer};
 use stores::Store;
 
-// Two stores of the same keys, which get the same calls.
+// Two stores of the same keys, which get the same calls: both have the same record at each key, as many keys and as much room.
 #[derive(Drop)]
 pub struct Pair<
     K: Key + Copy,
@@ -15,6 +16,9 @@ pub struct Pair<
 > {
     one: A,
     other: B,
+    ghost records: { (q : K) → (A.Store.holds one).at q ≡ (B.Store.holds other).at q },
+    ghost counts: { (A.Store.holds one).count ≡ (B.Store.holds other).count },
+    ghost rooms: { A.Store.most one ≡ B.Store.most other },
 }
 
 impl<
@@ -22,27 +26,34 @@ impl<
     A: Store<Key = K, Record = u32> + Drop,
     B: Store<Key = K, Record = u32> + Drop,
 > Pair<K, A, B> {
-    // Two stores without a key and of the same room are in step.
-    pub fn new(one: A, other: B) -> Self
-        requires { (A.Store.sound one) × (B.Store.sound other) }
-        ensures { Empty (A.Store.holds one) → Empty (B.Store.holds other) → A.Store.most one ≡ B.Store.most other → InStep A.Store.sound A.Store.holds A.Store.most B.Store.sound B.Store.holds B.Store.most result }
+    // The pair of two stores that have no key and the same room; none of others. The scratch is any key.
+    pub fn matched(one: A, other: B, scratch: K) -> Option<Self>
+        ensures alike { Empty (A.Store.holds one) → Empty (B.Store.holds other) → A.Store.most one ≡ B.Store.most other → is_some result ≡ true }
+        ensures made { IfSome result (λ p. (p.one ≡ one) × (p.other ≡ other) × Empty (A.Store.holds p.one)) }
     {
-        Pair { one, other }
+        let alike = one.room() == other.room()
+            && key_at(&one, 0, scratch).is_none()
+            && key_at(&other, 0, scratch).is_none();
+        if alike {
+            Some(Pair { one, other })
+        } else {
+            None
+        }
     }
 
-    // Puts into both, and answers what each answered.
+    // Puts into both, and answers whether each took it.
     pub fn put(&mut self, key: K, value: u32) -> (bool, bool)
-        requires { InStep A.Store.sound A.Store.holds A.Store.most B.Store.sound B.Store.holds B.Store.most self.old }
-        ensures steps { InStep A.Store.sound A.Store.holds A.Store.most B.Store.sound B.Store.holds B.Store.most self.new }
+        ensures put { Put K.Key.alike (A.Store.most self.old.one) (A.Store.holds self.old.one) key value result.0 (A.Store.holds self.new.one) }
         ensures agree { result.0 ≡ result.1 }
     {
-        (self.one.put(key, value), self.other.put(key, value))
+        let one = self.one.put(key, value);
+        let other = self.other.put(key, value);
+        (one.is_ok(), other.is_ok())
     }
 
     // Removes from both, and answers what each answered.
     pub fn remove(&mut self, key: &K) -> (bool, bool)
-        requires { InStep A.Store.sound A.Store.holds A.Store.most B.Store.sound B.Store.holds B.Store.most self.old }
-        ensures steps { InStep A.Store.sound A.Store.holds A.Store.most B.Store.sound B.Store.holds B.Store.most self.new }
+        ensures removed { Removed K.Key.alike (A.Store.holds self.old.one) key.now result.0 (A.Store.holds self.new.one) }
         ensures agree { result.0 ≡ result.1 }
     {
         (self.one.remove(key), self.other.remove(key))
@@ -50,7 +61,6 @@ impl<
 
     // Finds in both, and answers what each has at the key.
     pub fn find(&self, key: &K) -> (Option<u32>, Option<u32>)
-        requires { InStep A.Store.sound A.Store.holds A.Store.most B.Store.sound B.Store.holds B.Store.most self.now }
         ensures found { result.0 ≡ (A.Store.holds self.now.one).at key.now }
         ensures agree { result.0 ≡ result.1 }
     {
@@ -59,7 +69,6 @@ impl<
 
     // How many keys each has, by a walk. The scratch is any key.
     pub fn count(&self, scratch: K) -> (usize, usize)
-        requires { InStep A.Store.sound A.Store.holds A.Store.most B.Store.sound B.Store.holds B.Store.most self.now }
         ensures counted { result.0 ≡ (A.Store.holds self.now.one).count }
         ensures agree { result.0 ≡ result.1 }
     {
@@ -68,8 +77,7 @@ impl<
 
     // Removes every key of a bearer from both. The scratch is any key.
     pub fn remove_bearer(&mut self, bearer: u8, scratch: K)
-        requires { InStep A.Store.sound A.Store.holds A.Store.most B.Store.sound B.Store.holds B.Store.most self.old }
-        ensures { InStep A.Store.sound A.Store.holds A.Store.most B.Store.sound B.Store.holds B.Store.most self.new }
+        ensures { Cleared K.Key.owner bearer (A.Store.holds self.old.one) (A.Store.holds self.new.one) }
     {
         remove_bearer(&mut self.one, bearer, scratch);
         remove_bearer(&mut self.other, bearer, scratch);
@@ -77,28 +85,22 @@ impl<
 
     // Whether the key at a number of one store has the same record in the other.
     pub fn walk(&self, number: usize, scratch: K) -> bool
-        requires { InStep A.Store.sound A.Store.holds A.Store.most B.Store.sound B.Store.holds B.Store.most self.now }
         ensures { result ≡ true }
     {
-        let mut key = scratch;
-        if self.one.walk(number, &mut key) {
-            let (here, there) = self.find(&key);
-            here == there
-        } else {
-            true
+        match key_at(&self.one, number, scratch) {
+            Some(key) => {
+                let (here, there) = self.find(&key);
+                here == there
+            }
+            None => true,
         }
     }
 }
 
 // The record at a key, or none.
 fn find_in<S: Store<Record = u32>>(store: &S, key: &S::Key) -> Option<u32>
-    requires { S.Store.sound store.now }
     ensures { result ≡ (S.Store.holds store.now).at key.now }
 {
     let mut place = 0;
-    if store.find(key, &mut place) {
-        Some(place)
-    } else {
-        None
-    }
+    store.find(key, &mut place).then_some(place)
 }

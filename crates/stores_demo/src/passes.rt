@@ -1,5 +1,4 @@
 ghost use Rattle.std.specs.Prelude.{◌≡◌, true};
-ghost use Rattle.stores_demo.specs.InStep.{InStep};
 
 use crate::pair::Pair;
 use crate::tally::Tally;
@@ -12,16 +11,12 @@ pub fn put_all<
     A: Store<Key = K, Record = u32> + Drop,
     B: Store<Key = K, Record = u32> + Drop,
 >(pair: &mut Pair<K, A, B>, keys: &[K], value: u32) -> Tally
-    requires { InStep A.Store.sound A.Store.holds A.Store.most B.Store.sound B.Store.holds B.Store.most pair.old }
-    ensures steps { InStep A.Store.sound A.Store.holds A.Store.most B.Store.sound B.Store.holds B.Store.most pair.new }
     ensures agree { result.agree ≡ true }
 {
-    let mut tally = Tally::new();
-    for key in keys {
+    Tally::of(keys, |key| {
         let (one, other) = pair.put(*key, value);
-        tally = tally.with(one, one == other);
-    }
-    tally
+        (one, one == other)
+    })
 }
 
 // Removes each key.
@@ -30,16 +25,12 @@ pub fn remove_all<
     A: Store<Key = K, Record = u32> + Drop,
     B: Store<Key = K, Record = u32> + Drop,
 >(pair: &mut Pair<K, A, B>, keys: &[K]) -> Tally
-    requires { InStep A.Store.sound A.Store.holds A.Store.most B.Store.sound B.Store.holds B.Store.most pair.old }
-    ensures steps { InStep A.Store.sound A.Store.holds A.Store.most B.Store.sound B.Store.holds B.Store.most pair.new }
     ensures agree { result.agree ≡ true }
 {
-    let mut tally = Tally::new();
-    for key in keys {
+    Tally::of(keys, |key| {
         let (one, other) = pair.remove(key);
-        tally = tally.with(one, one == other);
-    }
-    tally
+        (one, one == other)
+    })
 }
 
 // Finds each key.
@@ -48,15 +39,12 @@ pub fn find_all<
     A: Store<Key = K, Record = u32> + Drop,
     B: Store<Key = K, Record = u32> + Drop,
 >(pair: &Pair<K, A, B>, keys: &[K]) -> Tally
-    requires { InStep A.Store.sound A.Store.holds A.Store.most B.Store.sound B.Store.holds B.Store.most pair.now }
     ensures agree { result.agree ≡ true }
 {
-    let mut tally = Tally::new();
-    for key in keys {
+    Tally::of(keys, |key| {
         let (one, other) = pair.find(key);
-        tally = tally.with(one.is_some(), one == other);
-    }
-    tally
+        (one.is_some(), one == other)
+    })
 }
 
 // Walks over all keys. The scratch is any key.
@@ -65,7 +53,6 @@ pub fn walk_all<
     A: Store<Key = K, Record = u32> + Drop,
     B: Store<Key = K, Record = u32> + Drop,
 >(pair: &Pair<K, A, B>, scratch: K) -> Tally
-    requires { InStep A.Store.sound A.Store.holds A.Store.most B.Store.sound B.Store.holds B.Store.most pair.now }
     ensures agree { result.agree ≡ true }
 {
     let (one, other) = pair.count(scratch);

@@ -33,24 +33,28 @@ fn activation_key(n: u8) -> Option<ActivationKey>
     })
 }
 
+// The keys at the numbers from 0.
+fn keys<K: Copy, F: Fn(u8) -> Option<K>>(key: F) -> Option<[K; KEYS]>
+    requires { F.IsAlwaysCallable key }
+    ensures { MatchOption result ((n : _) × F.post key n None) (λ ks. Samples (λ n k. F.post key n (Some k)) ks 12) }
+{
+    let mut keys = [key(0)?; KEYS];
+    for (n, slot) in keys.iter_mut().enumerate() {
+        *slot = key(n as u8)?;
+    }
+    Some(keys)
+}
+
 // The rule keys at the numbers from 0.
 pub fn rule_keys() -> Option<[RuleKey; KEYS]>
     ensures { MatchOption result ⊥ (λ ks. Samples RuleSample ks 12) }
 {
-    let mut keys = [rule_key(0)?; KEYS];
-    for (n, key) in keys.iter_mut().enumerate() {
-        *key = rule_key(n as u8)?;
-    }
-    Some(keys)
+    keys(rule_key)
 }
 
 // The activation keys at the numbers from 0.
 pub fn activation_keys() -> Option<[ActivationKey; KEYS]>
     ensures { MatchOption result ⊥ (λ ks. Samples ActivationSample ks 12) }
 {
-    let mut keys = [activation_key(0)?; KEYS];
-    for (n, key) in keys.iter_mut().enumerate() {
-        *key = activation_key(n as u8)?;
-    }
-    Some(keys)
+    keys(activation_key)
 }

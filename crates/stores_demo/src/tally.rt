@@ -24,8 +24,22 @@ impl Tally {
         ensures agree { result.agree ≡ (self.agree && agree) }
     {
         Tally {
-            yes: self.yes.saturating_add(yes as u32),
+            yes: self.yes.saturating_add(u32::from(yes)),
             agree: self.agree && agree,
         }
+    }
+
+    // The answers to a call at each key; the call tells whether the answer was yes, and whether both stores gave it.
+    pub fn of<K, F: FnMut(&K) -> (bool, bool)>(keys: &[K], mut call: F) -> Tally
+        requires callable { F.IsAlwaysCallable call }
+        requires same { (f : F) (k : _) (r : _) (g : F) → F.step f k r g → r.1 ≡ true }
+        ensures agree { result.agree ≡ true }
+    {
+        let mut tally = Tally::new();
+        for key in keys {
+            let (yes, agree) = call(key);
+            tally = tally.with(yes, agree);
+        }
+        tally
     }
 }

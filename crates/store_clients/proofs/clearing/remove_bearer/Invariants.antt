@@ -3,7 +3,7 @@ use Rattle.store_clients.proofs.Sweeping.{Kept}
 use Rattle.store_clients.proofs.clearing.remove_bearer.Given as goal
 
 abbrev pub invariant-loop-scratch : goal.invariant-loop-scratch
-invariant-loop-scratch g l = (g.S.Store.sound l.store) × Kept g.S.Key.Key.owner l.bearer (g.S.Store.holds l.initial.store) (g.S.Store.holds l.store) × (g.S.Store.most l.store ≡ g.S.Store.most l.initial.store)
+invariant-loop-scratch g l = Kept g.S.Key.Key.owner l.bearer (g.S.Store.holds l.initial.store) (g.S.Store.holds l.store) × (g.S.Store.most l.store ≡ g.S.Store.most l.initial.store)
 
 abbrev pub decreases-loop-scratch : goal.decreases-loop-scratch
 decreases-loop-scratch g l = (g.S.Store.holds l.store).count

@@ -1,52 +1,31 @@
-use Rattle.std.proofs.Common.{length, refl, ap, ◌∙◌, arith}
-use Rattle.std.proofs.lemmas.List.{length-set}
-use Rattle.stores.specs.declared.row.Row.{Row}
-use Rattle.stores.proofs.Lookups.{place_absent}
-use Rattle.stores.proofs.Changes.{put_over, new_dense, put_new, put_full}
-use Rattle.chained_store.proofs.Buckets.{chains_skip, chains_set, chains_more, over_in_order}
+use Rattle.std.proofs.Common.{rules}
+use Rattle.stores.proofs.Changes.{over_dense, put_over, put_new, put_full}
+use Rattle.chained_store.proofs.Buckets.{chains_over}
 use Rattle.chained_store.proofs.chained.ChainedStore.put.Goals as goal
 
-pub link-requires : goal.link-requires
-link-requires g c =
+pub invariant_of-self : goal.invariant_of-self
+invariant_of-self g c =
     let s = c.args.self.now in
-    let x : Row g.row.K.Denot g.row.R.Denot = record { key = c.args.key; value = c.args.value } in
-    record {
-      row = omega (arith, length-set s.rows.now s.used x, c.if-used-self.true);
-      chains = chains_set g.K.Key.digest s.rows.now s.links.now s.used s.used x c.if-used-self.true
-          (chains_skip g.K.Key.digest s.rows.now s.links.now s.used c.requires.chains);
-    }
+    let t = s.linked.table in (
+      (chains_over g.K.Key.digest t.rows.now t.links.now t.used c.in-Some.i (record { key = c.args.key; value = c.args.value }) c.in-Some.ensures s.linked.chains, _),
+      (over_dense g.K.Key.alike g.met.K.Key.equal t.rows.now t.used s.dense c.in-Some.i (record { key = c.args.key; value = c.args.value }) c.in-Some.ensures, _),
+    )
 
-pub returns-then-i-used : goal.returns-then-i-used
-returns-then-i-used g c =
+pub returns-in-Some-clause-put : goal.returns-in-Some-clause-put
+returns-in-Some-clause-put g c =
     let s = c.args.self.now in
-    let x : Row g.row.K.Denot g.row.R.Denot = record { key = c.args.key; value = c.args.value } in
-    record {
-      sound = over_in_order g.K.Key.digest s.rows.now s.links.now g.K.Key.alike g.K.Key.equal s.used c.place_of-i.result x c.if-i-used.true c.place_of-i.ensures c.requires;
-      put = put_over g.K.Key.alike g.K.Key.equal s.rows.now s.used c.requires.dense c.place_of-i.result x c.if-i-used.true c.place_of-i.ensures _;
-      room = length-set _ _ _;
-    }
+    let t = s.linked.table in
+    put_over g.K.Key.alike g.met.K.Key.equal t.rows.now t.used s.dense c.in-Some.i (record { key = c.args.key; value = c.args.value }) c.in-Some.ensures _
 
-pub returns-then-used-self : goal.returns-then-used-self
-returns-then-used-self g c =
+pub returns-in-None-clause-put : goal.returns-in-None-clause-put
+returns-in-None-clause-put g c =
     let s = c.args.self.now in
-    let l = c.link.new.self in
-    let x : Row g.row.K.Denot g.row.R.Denot = record { key = c.args.key; value = c.args.value } in
-    let absent = place_absent s.rows.now s.used c.place_of-i.result c.args.key c.place_of-i.ensures c.if-i-used.false in
-    record {
-      sound = record {
-        dense = rw c.link.ensures.rows (new_dense g.K.Key.alike g.K.Key.equal s.rows.now s.used c.requires.dense x c.if-used-self.true absent);
-        chains = chains_more g.K.Key.digest l.rows.now l.links.now s.used c.link.ensures.chains;
-      };
-      put = rw c.link.ensures.rows (put_new g.K.Key.alike g.K.Key.equal s.rows.now s.used c.requires.dense x c.if-used-self.true absent);
-      room = ap length c.link.ensures.rows ∙ length-set _ _ _;
-    }
+    let t = s.linked.table in
+    rw (c.push.ensures.rows, c.push.ensures.used)
+    (put_new g.K.Key.alike g.met.K.Key.equal t.rows.now t.used s.dense (record { key = c.args.key; value = c.args.value }) (search rules) c.in-None.ensures)
 
-pub returns-else-used-self : goal.returns-else-used-self
-returns-else-used-self g c =
+pub returns-in-None-2-clause-put : goal.returns-in-None-2-clause-put
+returns-in-None-2-clause-put g c =
     let s = c.args.self.now in
-    let absent = place_absent s.rows.now s.used c.place_of-i.result c.args.key c.place_of-i.ensures c.if-i-used.false in
-    record {
-      sound = c.requires;
-      put = put_full g.K.Key.alike g.K.Key.equal s.rows.now s.used c.requires.dense c.args.key c.args.value c.if-used-self.false absent;
-      room = refl;
-    }
+    let t = s.linked.table in
+    put_full g.K.Key.alike g.met.K.Key.equal t.rows.now t.used s.dense c.args.key c.args.value (search rules) c.in-None-2.ensures

@@ -1,25 +1,27 @@
-use Rattle.std.proofs.Common.{refl}
-use Rattle.stores.proofs.Lookups.{place_absent}
 use Rattle.stores.proofs.Changes.{removed_none}
-use Rattle.chained_store.proofs.Buckets.{less_in_order, less_removed, less_room}
+use Rattle.chained_store.proofs.Buckets.{less_rows, less_removed, less_room}
 use Rattle.chained_store.proofs.chained.ChainedStore.remove.Goals as goal
 
-pub returns : goal.returns
-returns g c =
+pub invariant_of-self : goal.invariant_of-self
+invariant_of-self g c =
     let s = c.args.self.now in
-    let t = c.take_out.new.self in
-    record {
-      sound = less_in_order g.K.Key.digest g.K.Key.alike g.K.Key.equal s.rows.now s.used c.requires.dense c.place_of-i.result c.args.key.now c.if-i-self.false c.place_of-i.ensures t.rows.now t.links.now t.used c.take_out.ensures.rows c.take_out.ensures.used c.take_out.ensures.chains;
-      removed = less_removed g.K.Key.digest g.K.Key.alike g.K.Key.equal s.rows.now s.used c.requires.dense c.place_of-i.result c.args.key.now c.if-i-self.false c.place_of-i.ensures t.rows.now t.links.now t.used c.take_out.ensures.rows c.take_out.ensures.used;
-      room = less_room g.K.Key.digest g.K.Key.alike g.K.Key.equal s.rows.now s.used c.requires.dense c.place_of-i.result c.args.key.now c.if-i-self.false c.place_of-i.ensures t.rows.now t.links.now t.used c.take_out.ensures.rows c.take_out.ensures.used;
-    }
+    let t = s.linked.table in
+    record { dense = rw c.swap_remove.ensures.used (less_rows g.K.Key.alike g.met.K.Key.equal t.rows.now t.used s.dense c.in-Some.i c.args.key.now c.in-Some.ensures c.swap_remove.new.self.table.rows.now c.swap_remove.ensures.rows) }
 
-pub returns-then-i-self : goal.returns-then-i-self
-returns-then-i-self g c =
+pub returns-clause-removed : goal.returns-clause-removed
+returns-clause-removed g c =
     let s = c.args.self.now in
-    record {
-      sound = c.requires;
-      removed = removed_none g.K.Key.alike g.K.Key.equal s.rows.now s.used c.requires.dense c.args.key.now
-          (place_absent s.rows.now s.used c.place_of-i.result c.args.key.now c.place_of-i.ensures c.if-i-self.true);
-      room = refl;
-    }
+    let t = s.linked.table in
+    rw c.swap_remove.ensures.used (less_removed g.K.Key.alike g.met.K.Key.equal t.rows.now t.used s.dense c.in-Some.i c.args.key.now c.in-Some.ensures c.swap_remove.new.self.table.rows.now c.swap_remove.ensures.rows)
+
+pub returns-clause-room : goal.returns-clause-room
+returns-clause-room g c =
+    let s = c.args.self.now in
+    let t = s.linked.table in
+    less_room g.K.Key.alike g.met.K.Key.equal t.rows.now t.used s.dense c.in-Some.i c.args.key.now c.in-Some.ensures c.swap_remove.new.self.table.rows.now c.swap_remove.ensures.rows
+
+pub returns-in_default-clause-removed : goal.returns-in_default-clause-removed
+returns-in_default-clause-removed g c =
+    let s = c.args.self.now in
+    let t = s.linked.table in
+    removed_none g.K.Key.alike g.met.K.Key.equal t.rows.now t.used s.dense c.args.key.now c.in_default.ensures

@@ -1,5 +1,5 @@
-use Rattle.std.proofs.Common.{◌≡◌, ℕ, zero, suc, ◌<◌, ◌≢◌, length, get_or, replicate, refl, arith, length-set}
-use Rattle.std.proofs.lemmas.List.{take_more, take_more_set, get_or-set_other, take_all}
+use Rattle.std.proofs.Common.{◌≡◌, ℕ, ◌+◌, ◌-◌, ◌≤◌, List, ◌++◌, zero, suc, length, get_or, drop, replicate, refl, ap, ◌∙◌, arith, length-append, length-drop}
+use Rattle.std.proofs.lemmas.List.{get_or-append_right, get_or-drop, length-replicate}
 use Rattle.names.proofs.name.Name.new.Goals as goal
 
 zeros : (n k : ℕ) → get_or {A = ℕ} (replicate n 0) k 0 ≡ 0
@@ -7,19 +7,15 @@ zeros zero k = refl
 zeros (suc n) zero = refl
 zeros (suc n) (suc k) = zeros n k
 
-pub loop-i-init : goal.loop-i-init
-loop-i-init c = (refl, refl, λ k h. zeros 32 k)
+-- octets over the first of n zeros
+all_stay : (xs : List ℕ) (m n : ℕ) → length xs ≡ m → m ≤ n → length (xs ++ drop m (replicate n 0)) ≡ n
+all_stay xs m n e h = grind (arith, length-append, length-drop, length-replicate)
 
-pub loop-i-preserved : goal.loop-i-preserved
-loop-i-preserved c =
-    let h : c.loop-i.i < length c.args.octets.now = omega arith in
-    let k : c.loop-i.i < length c.loop-i.held = omega arith in
-    let e = take_more c.args.octets.now c.loop-i.i 0 h in
-    let f = take_more_set c.loop-i.held c.loop-i.i (get_or c.args.octets.now c.loop-i.i 0) k in
-    (simp length-set (omega arith), cc, λ j l. let ne : j ≢ c.loop-i.i = omega arith in rw get_or-set_other (c.loop-i.invariant.2 j (omega arith)))
+zero_after : (xs : List ℕ) (m n k : ℕ) → length xs ≡ m → m ≤ k → get_or (xs ++ drop m (replicate n 0)) k 0 ≡ 0
+zero_after xs m n k e h = get_or-append_right xs (drop m (replicate n 0)) m k 0 e h ∙ get_or-drop m (replicate n 0) (k - m) 0 ∙ zeros n (m + (k - m))
 
-pub returns : goal.returns
-returns c =
-    let e = take_all (length c.args.octets.now) c.args.octets.now (omega arith) in
-    let i : c.loop-i.i ≡ length c.args.octets.now = omega arith in
-    cc
+pub invariant_of-result-clause-whole : goal.invariant_of-result-clause-whole
+invariant_of-result-clause-whole c = all_stay c.copy_from_slice.new.self (length c.args.octets.now) 32 (ap length c.copy_from_slice.ensures.after) (omega arith)
+
+pub invariant_of-result-clause-tail : goal.invariant_of-result-clause-tail
+invariant_of-result-clause-tail c k h = zero_after c.copy_from_slice.new.self (length c.args.octets.now) 32 k (ap length c.copy_from_slice.ensures.after) (omega arith)
