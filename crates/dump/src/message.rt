@@ -22,7 +22,6 @@ struct Header {
 impl fmt::Display for Header {
     ghost output = { λ it. Some (header_text it.header it.octets) };
 
-    #[tactic(auto, unfolding(crate::specs::Dump::header_text))]
     fn fmt<W: fmt::Write>(&self, f: &mut fmt::Formatter<W>) -> fmt::Result {
         let octets = self.octets;
         let MessageHeader {
