@@ -80,8 +80,7 @@ mod tests {
     fn run<S: Store<Key = RuleKey, Record = u32>>(
         rt: &impl Abort,
         store: &mut S,
-    ) -> Result<(), Fail>
-    {
+    ) -> Result<(), Fail> {
         let (a, b, c) = (rule(1, b"a")?, rule(2, b"a")?, rule(1, b"c")?);
         let mut place = 7;
         assert!(rt; store.room() == 2);
