@@ -43,7 +43,7 @@ module _ {K R : Type 0} (e : K → K → Bool) (equal : (x y : K) → Decides (e
   }
 
 module _ {K : Type 0} (e : K → K → Bool) (equal : (x y : K) → Decides (e x y) (x ≡ y)) where
-  pub unlike : (x y : K) → (x ≡ y → ⊥) → e x y ≡ false
+  unlike : (x y : K) → (x ≡ y → ⊥) → e x y ≡ false
   unlike x y p = ⊎_elim (λ t. absurd (p ((equal x y).0 t))) (λ f. f) (cases_Bool (e x y))
 
   module _ {R : Type 0} where

@@ -10,6 +10,6 @@ invariant_of-self g c =
     let same : (q : g.row.K.Denot) → (g.A.Store.holds a).at q ≡ (g.B.Store.holds b).at q = λ q. cc (c.remove_bearer.ensures.cleared.records q, p.records q, c.remove_bearer-2.ensures.cleared.records q) in
     record {
       records = same;
-      counts = counts_alike g.K.Key.alike g.met.K.Key.equal _ _ _ _ (g.met.A.Store.numbers a) (g.met.B.Store.numbers b) same;
+      counts = counts_alike _ _ _ _ (g.met.A.Store.numbers a) (g.met.B.Store.numbers b) same;
       rooms = c.remove_bearer.ensures.room ∙ p.rooms ∙ sym c.remove_bearer-2.ensures.room;
     }
