@@ -1,8 +1,5 @@
-ghost use Rattle.std.specs.Prelude.{◌≡◌, ◌+◌, ◌^◌, ◌<◌, ◌≤◌, true, ◌++◌, length, drop, is_some, if◌then◌else◌, Some, None};
-ghost use Rattle.diameter_writer.specs.Encoding.{encode_avps};
-ghost use Rattle.diameter_writer.specs.Measures.{FieldsTyped};
-ghost use Rattle.diameter_writer.specs.Messages.{encode_message, header_octets, writable};
-ghost use Rattle.diameter_writer.specs.Writing.{Wrote};
+ghost use Rattle.std.specs.Prelude.{◌≡◌, true, ◌++◌, length, drop, is_some, if◌then◌else◌, Some, None};
+ghost use Rattle.diameter_writer.specs.Messages.{encode_message, writable};
 ghost use Rattle.diameter_writer.specs.Written.{ReadsAs};
 
 use crate::avp::Avp;

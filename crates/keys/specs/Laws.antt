@@ -1,8 +1,9 @@
 -- Both kinds of key are alike exactly when they are equal. It is proved here, where the keys can name it.
 use Rattle.std.specs.Prelude.{◌≡◌, ℕ, Bool, true, ◌&&◌, Decides, ◌==◌, refl}
-use Rattle.std.proofs.Common.{sym, ap}
+use Rattle.std.proofs.Common.{sym, ap, ◌∙◌}
 use Rattle.std.proofs.lemmas.Bool.{false≢true}
-use Rattle.std.proofs.lemmas.Bool.Decides.{Decides-and, Decides-like, Decides-eqb}
+use Rattle.std.proofs.lemmas.Bool.Decides.{Decides-and, Decides-like, Decides-eqb, same_from_decides}
+use Rattle.names.specs.declared.name.Name.{Name}
 use Rattle.names.proofs.Spelled.{name_equal}
 use Rattle.keys.specs.Keys.{like_name, like_kind, like_rule, like_activation}
 use Rattle.keys.specs.declared.activation.ActivationKey.{ActivationKey}
@@ -14,7 +15,15 @@ use Rattle.keys.specs.declared.rule.RuleKey.{RuleKey}
 pub equal_hashes : {K : Type 0} {alike : K → K → Bool} → (digest : K → ℕ) → ((x y : K) → Decides (alike x y) (x ≡ y)) → (x y : K) → alike x y ≡ true → digest x ≡ digest y
 equal_hashes digest equal x y e = ap digest ((equal x y).0 e)
 
-kind_equal : (x y : NameKind) → Decides (like_kind x y) (x ≡ y)
+-- a test that decides equality is the one defined
+pub names_alike : (x y : Name) (r : Bool) → Decides r (x ≡ y) → r ≡ like_name x y
+names_alike x y r d = same_from_decides r (like_name x y) d (name_equal x y)
+
+-- a part more that is alike
+pub also : (part r rest : Bool) → part ≡ true → r ≡ rest → r ≡ (part && rest)
+also part r rest p e = e ∙ sym (ap (λ b. b && rest) p)
+
+pub kind_equal : (x y : NameKind) → Decides (like_kind x y) (x ≡ y)
 kind_equal Rule Rule = (λ e. refl, λ e. refl)
 kind_equal Rule Group = (λ e. absurd (false≢true e), λ e. ap (like_kind Rule) (sym e))
 kind_equal Group Rule = (λ e. absurd (false≢true e), λ e. ap (like_kind Group) (sym e))

@@ -46,22 +46,15 @@ fn compare_octets(a: &[u8], b: &[u8]) -> Ordering
     ensures { result ≡ lexical a.now b.now }
 {
     for (i, x) in a.iter().enumerate() {
-        if i >= b.len() {
+        let Some(y) = b.get(i) else {
             return Ordering::Greater;
-        }
-        let y = b[i];
-        if *x < y {
-            return Ordering::Less;
-        }
-        if y < *x {
-            return Ordering::Greater;
+        };
+        match x.cmp(y) {
+            Ordering::Equal => {}
+            order => return order,
         }
     }
-    if a.len() < b.len() {
-        Ordering::Less
-    } else {
-        Ordering::Equal
-    }
+    a.len().cmp(&b.len())
 }
 
 impl PartialEq for Name {

@@ -14,10 +14,7 @@ mod tests {
     use stores::{Row, Store, StoreFull};
 
     fn name(octets: &[u8]) -> Result<Name, Fail> {
-        let Some(name) = Name::new(octets) else {
-            return Err(Fail::new("no name"));
-        };
-        Ok(name)
+        Name::new(octets).ok_or_else(|| Fail::new("no name"))
     }
 
     fn compared(a: &[u8], b: &[u8]) -> Result<Ordering, Fail> {
@@ -114,9 +111,7 @@ mod tests {
             value: 9,
         }; 2];
         let mut links = [9; 3];
-        let Some(mut store) = Chained::over(&mut rows, &mut links) else {
-            return Err(Fail::new("no bucket"));
-        };
+        let mut store = Chained::over(&mut rows, &mut links).ok_or_else(|| Fail::new("no bucket"))?;
         run(&rt, &mut store)
     }
 

@@ -6,12 +6,11 @@ mod passes;
 mod samples;
 mod tally;
 
-use anyhow::anyhow;
+use anyhow::Context;
 use chained_store::Chained;
 use flat_store::Flat;
 use keys::Key;
 use pair::Pair;
-use passes::{find_all, put_all, remove_all, walk_all};
 use samples::{KEYS, activation_keys, rule_keys};
 use std::io;
 use stores::{Row, Store};
@@ -39,25 +38,25 @@ fn run<
     A: Store<Key = K, Record = u32> + Drop,
     B: Store<Key = K, Record = u32> + Drop,
 >(rt: &HostRuntime, pair: &mut Pair<K, A, B>, keys: &[K], scratch: K) -> io::Result<()> {
-    report(rt, "put 12 keys: taken", put_all(pair, keys, 7))?;
-    report(rt, "find 12 keys: found", find_all(pair, keys))?;
+    report(rt, "put 12 keys: taken", pair.put_all(keys, 7))?;
+    report(rt, "find 12 keys: found", pair.find_all(keys))?;
     report(
         rt,
         "put 12 keys with the record 0: taken",
-        put_all(pair, keys, 0),
+        pair.put_all(keys, 0),
     )?;
-    report(rt, "find 12 keys: found", find_all(pair, keys))?;
-    report(rt, "remove 12 keys: removed", remove_all(pair, keys))?;
-    report(rt, "walk: keys", walk_all(pair, scratch))?;
-    report(rt, "put 12 keys: taken", put_all(pair, keys, 9))?;
-    report(rt, "walk: keys", walk_all(pair, scratch))?;
+    report(rt, "find 12 keys: found", pair.find_all(keys))?;
+    report(rt, "remove 12 keys: removed", pair.remove_all(keys))?;
+    report(rt, "walk: keys", pair.walk_all(scratch))?;
+    report(rt, "put 12 keys: taken", pair.put_all(keys, 9))?;
+    report(rt, "walk: keys", pair.walk_all(scratch))?;
     pair.remove_bearer(1, scratch);
     report(
         rt,
         "remove the keys of bearer 1, walk: keys",
-        walk_all(pair, scratch),
+        pair.walk_all(scratch),
     )?;
-    report(rt, "put 12 keys: taken", put_all(pair, keys, 7))
+    report(rt, "put 12 keys: taken", pair.put_all(keys, 7))
 }
 
 // Makes both stores for a kind of key, and runs them.
@@ -70,12 +69,12 @@ fn run_kind<K: Key + Copy>(rt: &HostRuntime, what: &str, keys: &[K; KEYS]) -> an
     let mut flat_rows = vec![in rt.alloc(); row; ROOM]?;
     let mut chained_rows = vec![in rt.alloc(); row; ROOM]?;
     let mut links = [0; LINKS];
-    let Some(chained) = Chained::over(&mut chained_rows, &mut links) else {
-        return Err(anyhow!("there is no link for a bucket"));
-    };
-    let Some(mut pair) = Pair::matched(Flat::over(&mut flat_rows), chained, scratch) else {
-        return Err(anyhow!("the stores have not the same room"));
-    };
+    let chained = Chained::over(&mut chained_rows, &mut links).context(
+        "there is no link for a bucket",
+    )?;
+    let mut pair = Pair::matched(Flat::over(&mut flat_rows), chained, scratch).context(
+        "the stores have not the same room",
+    )?;
     println!(rt; "{what}")?;
     println!(rt; "room for {ROOM}")?;
     run(rt, &mut pair, keys, scratch)?;
@@ -83,9 +82,8 @@ fn run_kind<K: Key + Copy>(rt: &HostRuntime, what: &str, keys: &[K; KEYS]) -> an
 }
 
 fn main(rt: HostRuntime) -> anyhow::Result<()> {
-    let (Some(rules), Some(activations)) = (rule_keys(), activation_keys()) else {
-        return Err(anyhow!("a name has no octet, or too many"));
-    };
+    let rules = rule_keys().context("a name has no octet, or too many")?;
+    let activations = activation_keys().context("a name has no octet, or too many")?;
     run_kind(&rt, "rule keys", &rules)?;
     run_kind(&rt, "activation keys", &activations)
 }

@@ -103,9 +103,9 @@ mod tests {
     fn reads_what_another_implementation_writes(rt: HostRuntime) -> Result<(), Fail> {
         assert_eq!(rt; check_length(UPDATE_REQUEST), Ok(()));
         assert_eq!(rt; check_framing(UPDATE_REQUEST, Part::Message), Ok(()));
-        let Some(entry) = find(UPDATE_REQUEST, Part::Message, 1006, 10415) else {
-            return Err(Fail::new("no Event-Trigger"));
-        };
+        let entry = find(UPDATE_REQUEST, Part::Message, 1006, 10415).ok_or_else(|| Fail::new(
+            "no Event-Trigger",
+        ))?;
         assert!(rt; entry.offset == 152 && entry.start == 164 && entry.end == 168);
         assert!(rt; find(UPDATE_REQUEST, Part::Message, 1006, 0).is_none());
         Ok(())
