@@ -30,7 +30,7 @@ impl Tally {
     }
 
     // The answers to a call at each key; the call tells whether the answer was yes, and whether both stores gave it.
-    pub fn of<K, F: FnMut(&K) -> (bool, bool)>(keys: &[K], mut call: F) -> Tally
+    pub(crate) fn of<K, F: FnMut(&K) -> (bool, bool)>(keys: &[K], mut call: F) -> Tally
         requires callable { F.IsAlwaysCallable call }
         requires same { (f : F) (k : _) (r : _) (g : F) → F.step f k r g → r.1 ≡ true }
         ensures agree { result.agree ≡ true }
