@@ -59,20 +59,18 @@ fn run<
     report(rt, "put 12 keys: taken", pair.put_all(keys, 7))
 }
 
-// Makes both stores for a kind of key, and runs them.
-fn run_kind<K: Key + Copy>(rt: &HostRuntime, what: &str, keys: &[K; KEYS]) -> anyhow::Result<()> {
+// Makes both stores for a kind of key over rows that are lent, and runs them.
+fn run_kind<K: Key + Copy>(
+    rt: &HostRuntime,
+    what: &str,
+    keys: &[K; KEYS],
+    flat_rows: &mut [Row<K, u32>],
+    chained_rows: &mut [Row<K, u32>],
+) -> anyhow::Result<()> {
     let scratch = keys[0];
-    let row = Row {
-        key: scratch,
-        value: 0,
-    };
-    let mut flat_rows = vec![in rt.alloc(); row; ROOM]?;
-    let mut chained_rows = vec![in rt.alloc(); row; ROOM]?;
     let mut links = [0; LINKS];
-    let chained = Chained::over(&mut chained_rows, &mut links).context(
-        "there is no link for a bucket",
-    )?;
-    let mut pair = Pair::matched(Flat::over(&mut flat_rows), chained, scratch).context(
+    let chained = Chained::over(chained_rows, &mut links).context("there is no link for a bucket")?;
+    let mut pair = Pair::matched(Flat::over(flat_rows), chained, scratch).context(
         "the stores have not the same room",
     )?;
     println!(rt; "{what}")?;
@@ -84,6 +82,20 @@ fn run_kind<K: Key + Copy>(rt: &HostRuntime, what: &str, keys: &[K; KEYS]) -> an
 fn main(rt: HostRuntime) -> anyhow::Result<()> {
     let rules = rule_keys().context("a name has no octet, or too many")?;
     let activations = activation_keys().context("a name has no octet, or too many")?;
-    run_kind(&rt, "rule keys", &rules)?;
-    run_kind(&rt, "activation keys", &activations)
+    let row = Row {
+        key: rules[0],
+        value: 0,
+    };
+    run_kind(&rt, "rule keys", &rules, &mut [row; ROOM], &mut [row; ROOM])?;
+    let row = Row {
+        key: activations[0],
+        value: 0,
+    };
+    run_kind(
+        &rt,
+        "activation keys",
+        &activations,
+        &mut [row; ROOM],
+        &mut [row; ROOM],
+    )
 }
