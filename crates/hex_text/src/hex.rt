@@ -1,12 +1,13 @@
-ghost use Rattle.std.specs.Prelude.{◌≡◌, ◌<◌, ◌++◌, IfSome, Some, vec_items, OnOk};
+ghost use Rattle.std.specs.Prelude.{◌≡◌, ◌*◌, ◌<◌, ◌≤◌, ◌++◌, length, take, IfSome, Some, vec_items, OnOk};
+ghost use Rattle.std.specs.Str.{IsAscii};
 ghost use Rattle.hex_text.specs.Errors.{error_text};
-ghost use Rattle.hex_text.specs.Hex.{HexRead, digit_value, hex_text, is_blank};
+ghost use Rattle.hex_text.specs.Hex.{HexRead, digit, digit_value, hex_text, is_blank};
 ghost use Rattle.hex_text.specs.declared.hex.HexError.TheVariants.{NoMemory};
 
 use std::alloc::{AllocError, AllocFailed, Global};
 use std::error::Error;
-use std::fmt;
 use std::io::Write;
+use std::{fmt, str};
 
 // Why a text is no octets in hexadecimal.
 #[derive(Clone, Copy, PartialEq, Eq, Debug)]
@@ -87,6 +88,31 @@ pub fn read_hex(heap: Global, text: &[u8]) -> Result<Vec<u8>, HexError>
     }
 }
 
+// The digit of a number below 16.
+fn hex_digit(n: u8) -> u8
+    requires { n < 16 }
+    ensures value { result ≡ digit n }
+    ensures ascii { result < 128 }
+{
+    if n < 10 { b'0' + n } else { b'a' + (n - 10) }
+}
+
+// Puts the digits of octets, two each, at the front of the place.
+fn put_digits(octets: &[u8], place: &mut [u8])
+    requires { 2 * length octets.now ≤ length place.old }
+    ensures digits { take (2 * length octets.now) place.new ≡ hex_text octets.now }
+    ensures ascii { IsAscii (take (2 * length octets.now) place.new) }
+    ensures size { length place.new ≡ length place.old }
+{
+    for (i, &octet) in octets.iter().enumerate() {
+        place[2 * i] = hex_digit(octet / 16);
+        place[2 * i + 1] = hex_digit(octet % 16);
+    }
+}
+
+// How many octets are written at once: one by one it takes several times as long.
+const PART: usize = 32;
+
 // Octets that are shown in hexadecimal, two digits each.
 #[derive(Clone, Copy)]
 pub struct Hex<'a>(pub &'a [u8]);
@@ -95,8 +121,13 @@ impl fmt::Display for Hex<'_> {
     ghost output = { λ hex. Some (hex_text hex.0.now) };
 
     fn fmt<W: fmt::Write>(&self, f: &mut fmt::Formatter<W>) -> fmt::Result {
-        for &octet in self.0 {
-            write!(f, "{octet:02x}")?;
+        let mut place = [0; 2 * PART];
+        for part in self.0.chunks(PART) {
+            put_digits(part, &mut place);
+            let Ok(digits) = str::from_utf8(&place[..2 * part.len()]) else {
+                unreachable!();
+            };
+            f.write_str(digits)?;
         }
         Ok(())
     }
