@@ -6,7 +6,7 @@ ghost use Rattle.chained_store.specs.Chains.{New};
 use crate::linked::Linked;
 use crate::table::Table;
 use keys::Key;
-use stores::{Row, Store, StoreFull, fill};
+use stores::{Row, Store, StoreFull, read_key, read_record};
 
 // Rows in chains, of which no two have one key.
 #[derive(Drop)]
@@ -33,14 +33,6 @@ impl<'a, K: Key + Copy, R: Copy> Chained<'a, K, R> {
             linked: Linked { table },
         })
     }
-
-    // The key's record.
-    fn get(&self, key: &K) -> Option<R>
-        ensures { result ≡ (held K.Key.alike self.now.linked.table.rows.now self.now.linked.table.used).at key.now }
-    {
-        let i = self.linked.place_of(key)?;
-        Some(self.linked.table.rows[i].value)
-    }
 }
 
 impl<'a, K: Key + Copy, R: Copy> Store for Chained<'a, K, R> {
@@ -63,7 +55,10 @@ impl<'a, K: Key + Copy, R: Copy> Store for Chained<'a, K, R> {
     }
 
     fn find(&self, key: &K, place: &mut R) -> bool {
-        fill(place, self.get(key))
+        let used = self.linked.table.used;
+        // there is no row at the number of those in use
+        let i = self.linked.place_of(key).unwrap_or(used);
+        read_record(&self.linked.table.rows[..used], i, place)
     }
 
     fn put(&mut self, key: K, value: R) -> Result<(), StoreFull> {
@@ -87,6 +82,6 @@ impl<'a, K: Key + Copy, R: Copy> Store for Chained<'a, K, R> {
 
     fn walk(&self, number: usize, place: &mut K) -> bool {
         let rows = &self.linked.table.rows[..self.linked.table.used];
-        fill(place, rows.get(number).map(|row| row.key))
+        read_key(rows, number, place)
     }
 }

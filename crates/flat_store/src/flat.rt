@@ -5,7 +5,7 @@ ghost use Rattle.stores.specs.Rows.{Dense, held, keys_of};
 ghost use Rattle.stores.proofs.Numbered.{rows_number};
 
 use keys::Key;
-use stores::{Row, Store, StoreFull, fill};
+use stores::{Row, Store, StoreFull, read_key, read_record};
 
 // The rows that the caller lends, and how many of them are in use, from the first on. No key stands in two of those.
 #[derive(Drop)]
@@ -29,14 +29,6 @@ impl<'a, K: Key + Copy, R: Copy> Flat<'a, K, R> {
         ensures { Place self.now.rows.now self.now.used key.now result }
     {
         position(&self.rows[..self.used], key)
-    }
-
-    // The key's record.
-    fn get(&self, key: &K) -> Option<R>
-        ensures { result ≡ (held K.Key.alike self.now.rows.now self.now.used).at key.now }
-    {
-        let i = self.place_of(key)?;
-        Some(self.rows[i].value)
     }
 }
 
@@ -67,7 +59,9 @@ impl<'a, K: Key + Copy, R: Copy> Store for Flat<'a, K, R> {
     }
 
     fn find(&self, key: &K, place: &mut R) -> bool {
-        fill(place, self.get(key))
+        // there is no row at the number of those in use
+        let i = self.place_of(key).unwrap_or(self.used);
+        read_record(&self.rows[..self.used], i, place)
     }
 
     fn put(&mut self, key: K, value: R) -> Result<(), StoreFull> {
@@ -94,6 +88,6 @@ impl<'a, K: Key + Copy, R: Copy> Store for Flat<'a, K, R> {
     }
 
     fn walk(&self, number: usize, place: &mut K) -> bool {
-        fill(place, self.rows[..self.used].get(number).map(|row| row.key))
+        read_key(&self.rows[..self.used], number, place)
     }
 }

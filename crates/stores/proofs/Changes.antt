@@ -1,14 +1,34 @@
--- What putting and removing do to rows, of which the first n are in use.
-use Rattle.std.proofs.Common.{◌≡◌, ℕ, ◌+◌, ◌-◌, ◌<◌, ◌≤◌, Bool, true, false, cond, not, ◌||◌, ltb, ◌≢◌, List, length, get_or, take, set, is_some, Some, None, Decides, sym, refl, ap, ◌∙◌, ⊎_elim, arith}
-use Rattle.std.proofs.lemmas.List.{get_or-set_same, get_or-set_other, length-set}
+-- What finding, putting and removing do to rows, of which the first n are in use.
+use Rattle.std.proofs.Common.{◌≡◌, ℕ, ◌+◌, ◌-◌, ◌<◌, ◌≤◌, Bool, true, false, cond, not, ◌||◌, ltb, ◌≢◌, List, length, get_or, take, set, is_some, Some, None, Decides, Option, sym, refl, ap, ◌∙◌, ⊎_elim, arith}
+use Rattle.std.proofs.lemmas.List.{get_or-take, length-take-le, get_or-set_same, get_or-set_other, length-set, get_or-map, get_or_past, length-map}
 use Rattle.std.proofs.lemmas.Bool.{cases_eq, cases_lt, lt-ltb, le-ltb}
-use Rattle.stores.specs.Functions.{Put, Removed}
-use Rattle.stores.specs.Places.{Absent, Here}
-use Rattle.stores.specs.Rows.{lookup, held, Dense}
+use Rattle.std.specs.Option.{unwrap_or}
+use Rattle.stores.specs.Functions.{Found, Put, Removed}
+use Rattle.stores.specs.Reading.{ReadAt}
+use Rattle.stores.specs.Places.{Absent, Here, Place}
+use Rattle.stores.specs.Rows.{lookup, held, records_of, Dense}
 use Rattle.stores.specs.declared.row.Row.{Row}
 use Rattle.stores.proofs.Lookups.{row_set, lookup_absent, lookup_row, lookup_kept, lookup_by_key}
 
 module _ {K R : Type 0} (e : K → K → Bool) (equal : (x y : K) → Decides (e x y) (x ≡ y)) (rows : List (Row K R)) (n : ℕ) (h : Dense rows n) where
+  -- ---- finding: the record at the key's place is read; past the rows in use there is none
+  pub found_at : (k : K) (found : Option ℕ) (place place' : R) (r : Bool) → Place rows n k found → ReadAt (records_of (take n rows)) (unwrap_or found n) place place' r → Found (held e rows n) k place place' r
+  found_at k (Some i) place place' r at f =
+      let x : Row K R = record { key = k; value = place } in
+      let front : length (take n rows) ≡ n = length-take-le n rows h.fits in
+      let s = lookup_row e equal rows n i x k h at.within (at.key x) in
+      record {
+        answer = f.answer ∙ lt-ltb i _ (omega (arith, at.within, front, length-map (take n rows) (λ y. y.value))) ∙ sym (ap is_some s);
+        filled = f.filled ∙ get_or-map (λ y. y.value) (take n rows) i x place (omega (arith, at.within, front)) ∙ ap (λ y. y.value) (get_or-take n rows i x at.within) ∙ sym (ap (λ o. unwrap_or o place) s);
+      }
+  found_at k None place place' r b f =
+      let past : length (records_of (take n rows)) ≤ n = omega (arith, length-take-le n rows h.fits, length-map (take n rows) (λ y. y.value)) in
+      let s = lookup_absent e equal rows n k b in
+      record {
+        answer = f.answer ∙ le-ltb n _ past ∙ sym (ap is_some s);
+        filled = f.filled ∙ get_or_past (records_of (take n rows)) n place past ∙ sym (ap (λ o. unwrap_or o place) s);
+      }
+
   -- ---- putting: a key's row is written over
   module _ (i : ℕ) (x : Row K R) (at : Here rows n x.key i) where
     a : i < n

@@ -14,6 +14,9 @@ held like rows n = record { at = lookup like (take n rows); count = n }
 abbrev pub keys_of : {K R : Type 0} → List (Row K R) → List K
 keys_of rows = map (λ row. row.key) rows
 
+abbrev pub records_of : {K R : Type 0} → List (Row K R) → List R
+records_of rows = map (λ row. row.value) rows
+
 -- there are n rows, and no key stands in two of the first n
 pub record Dense {K R : Type 0} (rows : List (Row K R)) (n : ℕ) : Type 0 where
   pub fits : n ≤ length rows

@@ -2,9 +2,11 @@
 #![tactic(auto)]
 
 mod filling;
+mod reading;
 mod row;
 mod store;
 
 pub use filling::fill;
+pub use reading::{read_key, read_record};
 pub use row::Row;
 pub use store::{Store, StoreFull};
